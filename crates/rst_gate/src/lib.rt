@@ -1,6 +1,8 @@
-//! Lists of bits and three-valued places, the machines over them, and gates.
+//! Lists of bits and of three-valued places, clocked machines over them, and gates.
 #![tactic(auto)]
 
+mod laws;
 mod lists;
 
+pub use laws::{known_sequence_signs, pixley, state_equivalence};
 pub use lists::{Bits, Cube, Sequence};

@@ -1,0 +1,5 @@
+pub mod Zips
+pub mod Places
+pub mod KnownWords
+pub mod Equivalence
+pub mod OneWord
