@@ -1,0 +1,4 @@
+pub mod Words
+pub mod Unary
+pub mod Binary
+pub mod Plain

@@ -1,0 +1,12 @@
+//! Operators, and words of 1 to 64 bits with their two-valued operations.
+#![tactic(auto)]
+
+mod arithmetic;
+mod operators;
+mod ops;
+#[cfg(test)]
+mod tests;
+mod word;
+
+pub use ops::{BinaryOp, UnaryOp};
+pub use word::Word;
