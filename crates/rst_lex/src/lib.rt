@@ -2,11 +2,13 @@
 #![tactic(auto)]
 
 mod bytes;
+mod lines;
 mod small;
 mod small_front;
 mod token;
 mod words;
 
+pub use lines::line_of;
 pub use small::lex_small;
 pub use token::{Literal, Token, TokenKind};
 pub use words::{KEYWORDS, REFUSED_KEYWORDS, SMALL_KEYWORDS, SMALL_MARKS, is_keyword, is_name};
