@@ -1,0 +1,36 @@
+use Rattle.std.proofs.Common.{◌≡◌, ℕ, List, Bool, true, false, ap, refl, sym, ◌∙◌, rules, arith}
+use Rattle.std.specs.List.{list_any}
+use Rattle.std.specs.Ordering.{is_eq}
+use Rattle.std.proofs.lemmas.Bool.{false≢true}
+use denote.Ref.{Bor}
+use Rattle.rst_small_script.proofs.Names.{is_key, key_cmp}
+use Rattle.rst_small_script.proofs.Loops.{met_more, differ_more, differ_not, differ_all, not_false, not_true}
+use Rattle.rst_small_script.proofs.reading.sets_once.Goals as goal
+
+-- whether the set has the key
+abbrev is_found : List (Bor (List ℕ)) → Bor (List ℕ) → Bool
+is_found keys key = list_any (λ (other : Bor (List ℕ)). is_eq (key_cmp key other)) keys
+
+pub returns-then-not-branch : goal.returns-then-not-branch
+returns-then-not-branch c =
+    let found : is_found c.loop-setting.names.keys c.as_slice.result ≡ true = not_false _ (sym c.if-not-branch.true ∙ c.in_ok-insert.ensures.added) in (
+      λ wrong. absurd (false≢true wrong),
+      λ differ. absurd (differ_not c.args.settings.now c.loop-setting.setting-index c.setting-item.result c.loop-setting.names.keys c.as_slice.result (omega arith)
+          c.setting-item.is c.as_slice.ensures found c.loop-setting.invariant.met differ),
+    )
+
+pub loop-setting-init : goal.loop-setting-init
+loop-setting-init c = record { met = λ name. ap (λ (keys : List (Bor (List ℕ))). is_key keys name) c.new-names.ensures.empty; differ = tt }
+
+pub loop-setting-preserved : goal.loop-setting-preserved
+loop-setting-preserved c =
+    let missing : is_found c.loop-setting.names.keys c.as_slice.result ≡ false = not_true _ (sym c.if-not-branch.false ∙ c.in_ok-insert.ensures.added) in
+    record {
+      met = met_more c.args.settings.now c.loop-setting.setting-index c.setting-item.result c.loop-setting.names.keys c.insert.new.self.keys c.as_slice.result (omega arith)
+          c.setting-item.is c.as_slice.ensures c.in_ok-insert.ensures.keys c.loop-setting.invariant.met;
+      differ = differ_more c.args.settings.now c.loop-setting.setting-index c.setting-item.result c.loop-setting.names.keys c.as_slice.result (omega arith)
+          c.setting-item.is c.as_slice.ensures missing c.loop-setting.invariant.met c.loop-setting.invariant.differ;
+    }
+
+pub returns : goal.returns
+returns c = (λ _. differ_all c.args.settings.now c.loop-setting.setting-index c.loop-setting-test.false c.loop-setting.invariant.differ, λ _. refl)
