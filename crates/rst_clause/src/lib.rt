@@ -1,0 +1,22 @@
+//! Clauses over numbered variables: their types, the clauses of gates as a domain, and what it
+//! means that a log refutes clauses.
+#![tactic(auto)]
+
+mod clause;
+mod clause_domain;
+mod clauses;
+mod gate_clauses;
+mod laws;
+mod lit;
+mod log;
+mod store;
+#[cfg(test)]
+mod tests;
+
+pub use clause::Clause;
+pub use clause_domain::ClauseDomain;
+pub use clauses::Clauses;
+pub use laws::{one_extension, refutations_refute};
+pub use lit::Lit;
+pub use log::Log;
+pub use store::ClauseStore;
