@@ -8,7 +8,7 @@ mod script;
 mod spelling;
 
 pub use fitting::fit_small_script;
-pub use reading::read_small_script;
+pub use reading::{MOST_STEPS, read_small_script};
 pub use script::{Script, Setting, Step, Steps};
 
 #[cfg(test)]

@@ -16,10 +16,13 @@ width_sum (port ∷ ports) = port.width + width_sum ports
 abbrev pub kind_text : Verdict → List ℕ
 kind_text (SignedKnown seq) = codes "SIGNED known"
 
--- the design's name, and its numbers of register, input and output bits
+-- the numbers of register, input and output bits
+abbrev pub counts_text : Head → List ℕ
+counts_text head = counted (codes " registers") (width_sum head.registers) ++ (counted (codes " inputs") (width_sum head.inputs) ++ counted (codes " outputs") (width_sum head.outputs))
+
+-- the design's name and its numbers of bits
 abbrev pub design_text : Head → List ℕ
-design_text head = codes "design " ++ (head.top ++ (counted (codes " registers") (width_sum head.registers)
-    ++ (counted (codes " inputs") (width_sum head.inputs) ++ counted (codes " outputs") (width_sum head.outputs))))
+design_text head = codes "design " ++ (head.top ++ counts_text head)
 
 -- a port's name and its bits
 abbrev pub value_text : List ℕ → List Bool → List ℕ

@@ -1,7 +1,7 @@
 // Writes reports.
 ghost use Rattle.std.specs.Prelude.{◌≡◌, ◌++◌, ◌+◌, ◌≤◌, OnOk, IfOk, IfSome};
 ghost use Rattle.rst_cert.specs.Text.{line};
-ghost use Rattle.rst_texts.specs.ReportText.{width_sum, kind_text, design_text, value_text, values_text, cycle_text, cycle_lines, word_lines, part_lines, report_text};
+ghost use Rattle.rst_texts.specs.ReportText.{width_sum, kind_text, counts_text, design_text, value_text, values_text, cycle_text, cycle_lines, word_lines, part_lines, report_text};
 
 use crate::head::Head;
 use rst_cert::{Text, Verdict};
@@ -21,6 +21,19 @@ fn width_sum(ports: &[PortBits]) -> u64
     sum
 }
 
+// The numbers of register, input and output bits.
+fn put_counts(text: &mut Text, head: &Head) -> Result<(), NoMemory>
+    requires registers { width_sum head.now.registers ≤ 512 }
+    requires inputs { width_sum head.now.inputs ≤ 256 }
+    requires outputs { width_sum head.now.outputs ≤ 256 }
+    ensures { OnOk result (text.new ≡ text.old ++ counts_text head.now) }
+{
+    text.put_counted(b" registers", width_sum(head.registers.as_slice()))?;
+    text.put_counted(b" inputs", width_sum(head.inputs.as_slice()))?;
+    text.put_counted(b" outputs", width_sum(head.outputs.as_slice()))?;
+    Ok(())
+}
+
 fn put_design(text: &mut Text, head: &Head) -> Result<(), NoMemory>
     requires registers { width_sum head.now.registers ≤ 512 }
     requires inputs { width_sum head.now.inputs ≤ 256 }
@@ -29,9 +42,7 @@ fn put_design(text: &mut Text, head: &Head) -> Result<(), NoMemory>
 {
     text.put(b"design ")?;
     text.put(head.top.as_slice())?;
-    text.put_counted(b" registers", width_sum(head.registers.as_slice()))?;
-    text.put_counted(b" inputs", width_sum(head.inputs.as_slice()))?;
-    text.put_counted(b" outputs", width_sum(head.outputs.as_slice()))?;
+    put_counts(text, head)?;
     text.end_line()?;
     Ok(())
 }
@@ -128,7 +139,9 @@ mod tests {
     use rst_outside::Name;
     use std::test::Fail;
 
-    fn port(alloc: Global, name: &[u8], width: u8) -> Result<PortBits, NoMemory> {
+    fn port(alloc: Global, name: &[u8], width: u8) -> Result<PortBits, NoMemory>
+        ensures { IfOk result (λ port. port.width ≡ width) }
+    {
         let name = Name::new(alloc, name)?;
         Ok(PortBits { name, width })
     }
@@ -138,6 +151,15 @@ mod tests {
     {
         let mut ports = Vec::new(alloc);
         ports.push(port(alloc, name, width)?)?;
+        Ok(Ports::from_vec(ports))
+    }
+
+    fn two_ports(alloc: Global, first: PortBits, second: PortBits) -> Result<Ports, NoMemory>
+        ensures { IfOk result (λ ports. width_sum ports ≡ first.width + second.width) }
+    {
+        let mut ports = Vec::new(alloc);
+        ports.push(first)?;
+        ports.push(second)?;
         Ok(Ports::from_vec(ports))
     }
 
@@ -158,6 +180,29 @@ mod tests {
         assert_eq!(rt;
             text.as_slice(),
             b"SIGNED known\ndesign t registers 1 inputs 1 outputs 1\nsequence 1\ncycle 0 rst=1\n".as_slice()
+        );
+        Ok(())
+    }
+
+    // Two cycles of a vector of four bits and one bit.
+    #[test]
+    fn report_with_a_vector(rt: HostRuntime) -> Result<(), Fail> {
+        let alloc = rt.alloc();
+        let both = two_ports(alloc, port(alloc, b"a", 4)?, port(alloc, b"b_$", 1)?)?;
+        let head = Head {
+            top: Name::new(alloc, b"top")?,
+            inputs: Ports::from_slice(alloc, both.as_slice())?,
+            outputs: Ports::from_vec(Vec::new(alloc)),
+            registers: one_port(alloc, b"u0.state", 64)?,
+            budget: 0,
+        };
+        let mut seq = Sequence::new(alloc);
+        seq.push(Bits::from_slice(alloc, &[true, false, true, true, false])?)?;
+        seq.push(Bits::from_slice(alloc, &[false, false, false, true, true])?)?;
+        let text = report_text(alloc, &head, &Verdict::SignedKnown { seq })?;
+        assert_eq!(rt;
+            text.as_slice(),
+            b"SIGNED known\ndesign top registers 64 inputs 5 outputs 0\nsequence 2\ncycle 0 a=1011 b_$=0\ncycle 1 a=0001 b_$=1\n".as_slice()
         );
         Ok(())
     }
