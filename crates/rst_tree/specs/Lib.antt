@@ -1,0 +1,4 @@
+pub mod Trees
+pub mod Targets
+pub mod Statements
+pub mod Modules
