@@ -1,7 +1,7 @@
 -- Gate by gate, each choice of the free bits extends in exactly one way, and unit propagation finds it.
 use Rattle.std.proofs.Common.{◌≡◌, ◌≢◌, ◌∙◌, ℕ, zero, suc, ◌+◌, ◌<◌, ◌≤◌, inl, inr, ℤ, pos, negsuc, unsigned_abs, Bool, true, false, not, cond, ◌&&◌, List, [], ◌∷◌, ◌++◌, length, refl, sym, ap, subst, arith, append_assoc, append-nil, add-zero, eqb, eq-eqb}
 use Rattle.std.specs.List.{Contains}
-use Rattle.std.specs.Coded.{Coded-set, coded_bool}
+use Rattle.std.specs.Coded.{Coded-set, coded_bool, le_prop}
 use Rattle.std.proofs.Math.Logic.{∥∥₁_elim}
 use Rattle.std.proofs.Math.Nat.{eq-or-lt_of_le}
 use Rattle.std.proofs.lemmas.Bool.{ne_eqb}
@@ -341,3 +341,10 @@ constant_in_range free vars false lt = (omega arith, omega arith)
 
 pub both_equal : (a a' : ℤ) (b b' : List (List ℤ)) → a ≡ a' → b ≡ b' → ◌≡◌ {A = ℤ × List (List ℤ)} (a, b) (a', b')
 both_equal a a' b b' e f = cc
+
+-- the clauses that define variables are in range
+pub fixed_in_range : (free vars : ℕ) (fixed : List (List ℤ)) → ∥ IsDefined free vars fixed ∥₁ → AreClauses vars fixed
+fixed_in_range free vars fixed h i d lt j e low = (
+  ∥∥₁_elim h le_prop (λ x. ((defined_extended free vars fixed x).in_range i d lt j e low).0),
+  ∥∥₁_elim h le_prop (λ x. ((defined_extended free vars fixed x).in_range i d lt j e low).1),
+)

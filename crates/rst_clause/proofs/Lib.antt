@@ -4,3 +4,7 @@ pub mod Sound
 pub mod Ranges
 pub mod Gates
 pub mod Extending
+pub mod Marks
+pub mod Scan
+pub mod Sweeping
+pub mod Grown

@@ -6,3 +6,7 @@ pub mod Standing
 pub mod Results
 pub mod Extension
 pub mod Paths
+pub mod Trails
+pub mod Looks
+pub mod Sweeps
+pub mod Passes

@@ -10,6 +10,10 @@ pub data Derived (clauses : List (List ℤ)) : ℤ → Type 0 where
   unit : (c : List ℤ) (l : ℤ) → Contains clauses c → Contains c l
       → ((k : ℤ) → Contains c k → k ≢ l → Derived clauses (opposite k)) → Derived clauses l
 
+-- each of the literals is found
+abbrev pub AllDerived : List (List ℤ) → List ℤ → Type 0
+AllDerived clauses lits = (k : ℤ) → Contains lits k → Derived clauses k
+
 -- unit propagation gives the empty clause: all literals of some clause are false
 abbrev pub Closes : List (List ℤ) → Type 0
 Closes clauses = (c : List ℤ) × Contains clauses c × ((k : ℤ) → Contains c k → Derived clauses (opposite k))

@@ -1,9 +1,10 @@
-ghost use Rattle.std.specs.Prelude.{◌≡◌, ◌+◌, ◌<◌, ◌^◌, [], ◌∷◌, ◌++◌, OnOk, OnErr};
+ghost use Rattle.std.specs.Prelude.{◌≡◌, ◌+◌, ◌<◌, ◌^◌, [], ◌∷◌, ◌++◌, IfOk, OnOk, OnErr};
 ghost use Rattle.rst_clause.specs.Literals.{AreLiterals, AreClauses};
 ghost use Rattle.rst_clause.specs.Operations.{IsDefined, IsGateBehind};
 
 use crate::{ClauseStore, Lit};
 use rst_outside::NoMemory;
+use std::alloc::Global;
 
 /// Clauses over the variables 1 to `vars`, of which 1 to `free` are the free bits.
 ///
@@ -23,6 +24,18 @@ pub struct Clauses {
 }
 
 impl Clauses {
+    /// All the clauses in one list: the fixed ones, then the required ones.
+    pub fn all(&self, alloc: Global) -> Result<ClauseStore, NoMemory>
+        ensures same { IfOk result (λ all. all ≡ self.now.fixed ++ self.now.required) }
+        ensures in_range { AreClauses self.now.vars (self.now.fixed ++ self.now.required) }
+        ensures few { self.now.vars < 2 ^ 31 }
+    {
+        let mut all = ClauseStore::new(alloc);
+        all.append(&self.fixed)?;
+        all.append(&self.required)?;
+        Ok(all)
+    }
+
     // Adds the clauses of a gate whose result is the next variable, all or none of them.
     pub(crate) fn define(&mut self, gate: &ClauseStore) -> Result<(), NoMemory>
         requires room { self.old.vars + 1 < 2 ^ 31 }

@@ -9,9 +9,12 @@ mod gate_clauses;
 mod laws;
 mod lit;
 mod log;
+mod status;
 mod store;
+mod sweep;
 #[cfg(test)]
 mod tests;
+mod trail;
 
 pub use clause::Clause;
 pub use clause_domain::ClauseDomain;
@@ -19,4 +22,7 @@ pub use clauses::Clauses;
 pub use laws::{one_extension, refutations_refute};
 pub use lit::Lit;
 pub use log::Log;
+pub use status::{Status, status_of};
 pub use store::ClauseStore;
+pub use sweep::propagate;
+pub use trail::Trail;
