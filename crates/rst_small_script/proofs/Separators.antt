@@ -1,6 +1,6 @@
 -- A byte that a text lacks parts a longer text in one way, and names lack the bytes between them.
-use Rattle.std.proofs.Common.{◌≡◌, ◌≢◌, ℕ, Bool, true, false, ◌&&◌, List, [], ◌∷◌, ◌++◌, refl, sym, ap, ◌∙◌, arith}
-use Rattle.std.specs.List.{AllByRecursion, list_all}
+use Rattle.std.proofs.Common.{◌≡◌, ◌≢◌, ℕ, Bool, true, false, ◌&&◌, List, [], ◌∷◌, ◌++◌, refl, ap}
+use Rattle.std.specs.List.{list_all}
 use Rattle.rst_lex.specs.Bytes.{is_name_start, is_name_byte}
 use Rattle.rst_lex.specs.Words.{is_identifier, is_name}
 use Rattle.rst_small_script.specs.Reading.{Lacks}

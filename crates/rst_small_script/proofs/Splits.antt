@@ -8,7 +8,7 @@ use Rattle.rst_small_script.specs.declared.script.Setting.{Setting}
 use Rattle.rst_small_script.specs.Reading.{Lacks}
 use Rattle.rst_small_script.specs.Script.{setting_text, step_line, opening_text, IsSetting, IsStep, AreSteps}
 use Rattle.rst_small_script.proofs.Separators.{first_mark, lacks_no_mark, name_lacks}
-use Rattle.rst_small_script.proofs.PrefixCodes.{ReadsOn, reads_on, stuck, all_behind}
+use Rattle.rst_small_script.proofs.PrefixCodes.{reads_on, stuck}
 use Rattle.rst_small_script.proofs.Texts.{setting_front, step_front, opening_front, setting_code, step_code, settings_lack}
 
 pub none_anyway : {A P : Type 0} (r : Option A) → P → IfNone r P

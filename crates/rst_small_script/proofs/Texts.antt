@@ -1,14 +1,14 @@
 -- The texts of settings, steps and opening lines can be read in one way.
-use Rattle.std.proofs.Common.{◌≡◌, ◌≢◌, ℕ, ◌≤◌, ◌<◌, ◌+◌, Bool, true, false, List, [], ◌∷◌, ◌++◌, length, refl, sym, ap, ◌∙◌, append_assoc, arith, codes, if◌then◌else◌, length-append, eqb, eq-eqb}
+use Rattle.std.proofs.Common.{◌≡◌, ◌≢◌, ℕ, Bool, true, false, List, [], ◌∷◌, ◌++◌, refl, sym, ap, ◌∙◌, append_assoc, arith, codes, if◌then◌else◌, eqb, eq-eqb}
 use Rattle.std.proofs.lemmas.Bool.{false≢true}
 use Rattle.std.specs.List.{AllByRecursion, flat_map}
 use Rattle.rst_lex.specs.Words.{is_name}
 use Rattle.rst_small_script.specs.declared.script.Setting.{Setting}
 use Rattle.rst_small_script.specs.declared.script.Script.{Script}
 use Rattle.rst_small_script.specs.Reading.{Lacks}
-use Rattle.rst_small_script.specs.Script.{setting_text, step_line, opening_text, script_text, IsSetting, IsStep, AreSteps, SpellsScript}
-use Rattle.rst_small_script.proofs.Separators.{first_mark, lacks_no_mark, Lacks-append, name_lacks}
-use Rattle.rst_small_script.proofs.PrefixCodes.{IsPrefixCode, ReadsOn, reads_on, all_read, stuck}
+use Rattle.rst_small_script.specs.Script.{setting_text, step_line, opening_text, IsSetting, IsStep, SpellsScript}
+use Rattle.rst_small_script.proofs.Separators.{first_mark, Lacks-append, name_lacks}
+use Rattle.rst_small_script.proofs.PrefixCodes.{IsPrefixCode, all_read}
 
 abbrev digit_of : Bool → ℕ
 digit_of value = if value then 49 else 48

@@ -1,5 +1,5 @@
 -- The small form of a script: the text of a script, and what a script has to meet.
-use Rattle.std.specs.Prelude.{◌≡◌, ◌≢◌, ℕ, ◌≤◌, Bool, List, [], ◌∷◌, ◌++◌, length, map, codes, if◌then◌else◌}
+use Rattle.std.specs.Prelude.{◌≡◌, ◌≢◌, ℕ, ◌≤◌, List, [], ◌∷◌, ◌++◌, length, map, codes, if◌then◌else◌}
 use Rattle.std.specs.List.{AllByRecursion, flat_map}
 use Rattle.rst_lex.specs.Words.{IsName}
 use Rattle.rst_small_script.specs.declared.script.Setting.{Setting}

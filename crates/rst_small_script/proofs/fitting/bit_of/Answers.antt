@@ -1,4 +1,4 @@
-use Rattle.std.proofs.Common.{◌≡◌, true, false, sym, ◌∙◌, rules, arith}
+use Rattle.std.proofs.Common.{◌≡◌, true, false, sym, ◌∙◌, arith}
 use Rattle.std.specs.Str.{bytes_eq}
 use Rattle.rst_small_script.proofs.Loops.{bit_found, bit_behind}
 use Rattle.rst_small_script.proofs.fitting.bit_of.Goals as goal

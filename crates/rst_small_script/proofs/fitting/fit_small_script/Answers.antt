@@ -1,4 +1,4 @@
-use Rattle.std.proofs.Common.{◌≡◌, true, rules, arith}
+use Rattle.std.proofs.Common.{◌≡◌, true, arith}
 use Rattle.rst_small_script.specs.Fitting.{fits_step, input_names}
 use Rattle.rst_small_script.proofs.Loops.{sequence_more, fit_more}
 use Rattle.rst_small_script.proofs.fitting.fit_small_script.Goals as goal

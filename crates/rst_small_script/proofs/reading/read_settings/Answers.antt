@@ -1,4 +1,4 @@
-use Rattle.std.proofs.Common.{◌≡◌, false, eqb, length, rules}
+use Rattle.std.proofs.Common.{◌≡◌, false, eqb, length}
 use Rattle.rst_small_script.proofs.Splits.{not_empty, settings_end}
 use Rattle.rst_small_script.proofs.reading.read_settings.Goals as goal
 

@@ -1,9 +1,7 @@
-use Rattle.std.proofs.Common.{◌≡◌, ℕ, List, ◌++◌, true, IsNone, sym, ◌∙◌, subst, rules}
+use Rattle.std.proofs.Common.{◌≡◌, ◌++◌, true, IsNone, sym, ◌∙◌, rules}
 use Rattle.std.specs.List.{flat_map}
-use Rattle.rst_small_script.specs.declared.script.Setting.{Setting}
-use Rattle.rst_small_script.specs.declared.script.Script.{Script}
 use Rattle.rst_lex.specs.Words.{is_name}
-use Rattle.rst_small_script.specs.Script.{opening_text, step_line, AreSteps, SpellsScript}
+use Rattle.rst_small_script.specs.Script.{opening_text, step_line}
 use Rattle.rst_small_script.proofs.Texts.{one_opening}
 use Rattle.rst_small_script.proofs.reading.read_small_script.Goals as goal
 

@@ -1,8 +1,5 @@
-use Rattle.std.proofs.Common.{◌≡◌, ◌≢◌, ℕ, List, [], ◌∷◌, ◌++◌, false, eqb, IsNone, length, codes, rules, arith}
-use Rattle.std.specs.List.{flat_map}
-use Rattle.rst_small_script.specs.declared.script.Setting.{Setting}
+use Rattle.std.proofs.Common.{◌≡◌, ◌∷◌, ◌++◌, false, eqb, IsNone, length, codes, rules, arith}
 use Rattle.rst_small_script.specs.Reading.{Lacks}
-use Rattle.rst_small_script.specs.Script.{setting_text, IsStep}
 use Rattle.rst_small_script.proofs.Splits.{not_empty, steps_end, no_step_line, no_step_settings, step_not_empty, too_many}
 use Rattle.rst_small_script.proofs.reading.read_steps.Goals as goal
 

@@ -1,5 +1,5 @@
-use Rattle.std.proofs.Common.{◌≡◌, ◌++◌, ◌≤◌, length}
-use Rattle.std.specs.List.{AllByRecursion, flat_map}
+use Rattle.std.proofs.Common.{◌≡◌, ◌++◌, length}
+use Rattle.std.specs.List.{flat_map}
 use Rattle.rst_small_script.specs.Script.{step_line, AreSteps}
 use Rattle.rst_small_script.proofs.reading.read_steps.Given as goal
 

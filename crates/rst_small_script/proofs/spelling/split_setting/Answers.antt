@@ -1,4 +1,4 @@
-use Rattle.std.proofs.Common.{◌≡◌, ℕ, List, ◌++◌, ◌∷◌, Bool, true, false, Some, if◌then◌else◌, rules, arith}
+use Rattle.std.proofs.Common.{◌≡◌, ◌++◌, ◌∷◌, false, rules, arith}
 use Rattle.rst_lex.specs.Words.{is_name}
 use Rattle.rst_small_script.specs.Reading.{Lacks}
 use Rattle.rst_small_script.proofs.Splits.{none_anyway, setting_without_mark, setting_without_value, setting_without_name}
