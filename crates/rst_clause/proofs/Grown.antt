@@ -1,13 +1,13 @@
 -- What a trail that grew by propagation has, and what a complete trail lacks.
-use Rattle.std.proofs.Common.{◌≡◌, ◌≢◌, ℕ, ◌+◌, ◌<◌, ◌≤◌, ◌⊎◌, inl, inr, ℤ, List, [], ◌∷◌, ◌++◌, length, get_or, refl, sym, ◌∙◌, subst, ap, arith, take, append_assoc}
+use Rattle.std.proofs.Common.{◌≡◌, inl, inr, ℤ, List, [], ◌∷◌, ◌++◌, length, get_or, sym, ◌∙◌, subst, ap, take, append_assoc}
 use Rattle.std.specs.List.{Contains}
 use Rattle.std.proofs.Math.Seq.{take-append_seam}
-use Rattle.std.proofs.lemmas.List.Elements.{Contains-get_or, Contains-push_cases, Contains-append_left, Contains-append_right}
+use Rattle.std.proofs.lemmas.List.Elements.{Contains-get_or, Contains-push_cases, Contains-append_left}
 use Rattle.rst_clause.specs.Literals.{opposite}
 use Rattle.rst_clause.specs.Propagation.{Derived, Closes, AllDerived}
 use Rattle.rst_clause.specs.Propagation.Derived.{unit}
 use Rattle.rst_clause.proofs.Extending.{AreAmong}
-use Rattle.rst_clause.specs.Trails.{Trail', pushed, Grows, IsComplete, IsQuiet, IsUnit, AllFalse, AllFalseBut}
+use Rattle.rst_clause.specs.Trails.{Trail', Grows, IsComplete, AllFalse}
 use Rattle.rst_clause.specs.Trails.Grows.{same, more}
 
 pub grown_derived : (clauses cs : List (List ℤ)) (s t : Trail') → AreAmong clauses cs → Grows clauses s t → AllDerived cs s.lits → AllDerived cs t.lits

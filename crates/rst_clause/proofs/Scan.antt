@@ -1,11 +1,11 @@
 -- The loop over one clause's literals.
-use Rattle.std.proofs.Common.{◌≡◌, ◌≢◌, ℕ, zero, suc, ◌+◌, ◌<◌, ◌≤◌, ◌⊎◌, inl, inr, ℤ, Bool, true, false, List, [], ◌∷◌, ◌++◌, length, take, get_or, refl, sym, ◌∙◌, subst, ap, arith, unsigned_abs, Option, Some, None, add-one}
-use Rattle.std.proofs.Math.Seq.{take-suc, take-length}
-use Rattle.std.specs.List.{Contains, All}
+use Rattle.std.proofs.Common.{◌≡◌, ◌≢◌, ℕ, ◌+◌, ◌<◌, inl, inr, ℤ, List, [], ◌∷◌, ◌++◌, length, take, get_or, sym, ◌∙◌, subst, ap, Option, Some, None, add-one}
+use Rattle.std.proofs.Math.Seq.{take-suc}
+use Rattle.std.specs.List.{Contains}
 use Rattle.std.proofs.lemmas.List.Elements.{Contains-push_cases, Contains-push, Contains-append_left, Contains-get_or}
-use Rattle.rst_clause.specs.Literals.{opposite, IsLiteral}
-use Rattle.rst_clause.specs.Trails.{IsConsistent, AllFalse, AllFalseBut, IsUnit, IsQuiet}
-use Rattle.rst_clause.proofs.Members.{opposite-opposite, same_or_not, Contains-nil}
+use Rattle.rst_clause.specs.Literals.{opposite}
+use Rattle.rst_clause.specs.Trails.{IsConsistent, AllFalse, IsUnit, IsQuiet}
+use Rattle.rst_clause.proofs.Members.{same_or_not, Contains-nil}
 
 -- of the clause's first literals all are false, but for the open one
 abbrev pub SoFar : List ℤ → List ℤ → Option ℤ → Type 0

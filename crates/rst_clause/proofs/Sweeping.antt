@@ -1,12 +1,11 @@
 -- The loop over all clauses, and the loop of such loops.
-use Rattle.std.proofs.Common.{◌≡◌, ℕ, zero, suc, ◌+◌, ◌*◌, ◌<◌, ◌≤◌, ℤ, Bool, true, false, List, [], ◌∷◌, ◌++◌, length, get_or, refl, sym, ◌∙◌, subst, ap, arith, below_more, below_none, length-append, unsigned_abs}
-use Rattle.std.specs.List.{Contains, All}
+use Rattle.std.proofs.Common.{◌≡◌, ℕ, ◌+◌, ◌*◌, ◌<◌, ◌≤◌, ℤ, Bool, true, false, List, [], ◌∷◌, ◌++◌, length, get_or, refl, sym, ◌∙◌, subst, arith, below_more, length-append, unsigned_abs}
+use Rattle.std.specs.List.{Contains}
 use Rattle.std.proofs.lemmas.List.{get_or_default}
-use Rattle.std.proofs.lemmas.List.Elements.{All-contains, Contains-get_or}
-use Rattle.rst_clause.specs.Literals.{opposite, IsLiteral, AreLiterals, AreClauses}
-use Rattle.rst_clause.specs.Trails.{Trail', pushed, Grows, IsComplete, IsQuiet, IsUnit, AllFalse}
+use Rattle.std.proofs.lemmas.List.Elements.{All-contains}
+use Rattle.rst_clause.specs.Literals.{IsLiteral, AreLiterals, AreClauses}
+use Rattle.rst_clause.specs.Trails.{Trail', pushed, Grows, IsComplete, IsQuiet, IsUnit}
 use Rattle.rst_clause.specs.Trails.Grows.{same, more}
-use Rattle.rst_clause.specs.Sweeps.{Sweeps, Propagates}
 
 pub record Sweeping (clauses : List (List ℤ)) (initial trail : Trail') (i : ℕ) (grown : Bool) : Type 0 where
   pub grows : Grows clauses initial trail

@@ -1,5 +1,5 @@
 -- A trail: literals that stand, in the order in which they came.
-use Rattle.std.specs.Prelude.{◌≡◌, ◌≢◌, ℕ, zero, suc, ◌+◌, ◌*◌, ◌^◌, ◌<◌, ◌≤◌, ℤ, pos, negsuc, Bool, true, false, not, List, [], ◌∷◌, ◌++◌, length, slice_set, slice_index_or, unsigned_abs}
+use Rattle.std.specs.Prelude.{◌≡◌, ◌≢◌, ℕ, ◌+◌, ◌*◌, ◌^◌, ◌<◌, ℤ, pos, negsuc, Bool, true, false, not, List, [], ◌∷◌, ◌++◌, length, slice_set, slice_index_or, unsigned_abs}
 use Rattle.std.specs.List.{Contains, All, count_by}
 use Rattle.rst_clause.specs.Literals.{opposite, IsLiteral}
 

@@ -1,5 +1,5 @@
 -- Literal by literal: all so far are false, or all but one that is open.
-use Rattle.std.proofs.Common.{rules, arith, ◌≡◌, ◌≢◌, ◌<◌, length, sym, ◌∙◌, subst, ap, Some, None, take, Option, ℤ}
+use Rattle.std.proofs.Common.{rules, arith, ◌≡◌, ◌<◌, length, ◌∙◌, subst, ap, Some, None, take, Option, ℤ}
 use Rattle.std.proofs.Math.Seq.{take-length}
 use Rattle.std.specs.List.{Contains}
 use Rattle.rst_clause.specs.Literals.{opposite}

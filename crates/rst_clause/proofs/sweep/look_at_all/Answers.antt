@@ -1,6 +1,6 @@
-use Rattle.std.proofs.Common.{rules, arith, ◌≡◌, ℕ, ℤ, List, [], ◌∷◌, ◌++◌, length, ◌+◌, ◌*◌, ◌<◌, ◌≤◌, sym, ◌∙◌, subst, get_or, true, false, Bool, refl, ap}
+use Rattle.std.proofs.Common.{arith, ◌≡◌, ℤ, List, [], ◌∷◌, ◌++◌, length, ◌+◌, ◌*◌, ◌<◌, ◌≤◌, ◌∙◌, subst, get_or}
 use Rattle.rst_clause.specs.Trails.{Trail', pushed, IsQuiet, IsUnit}
-use Rattle.rst_clause.proofs.Sweeping.{Sweeping, sweeping-start, sweeping-quiet, sweeping-unit, complete_from_each}
+use Rattle.rst_clause.proofs.Sweeping.{sweeping-start, sweeping-quiet, sweeping-unit, complete_from_each}
 use Rattle.rst_clause.proofs.sweep.look_at_all.Goals as goal
 use Rattle.rst_clause.proofs.sweep.look_at_all.Goals.{in-Unit+in_ok-push-in-Unit, in-Quiet}
 

@@ -1,4 +1,4 @@
-use Rattle.std.proofs.Common.{arith, ◌≡◌, ◌≤◌, ◌<◌, length, subst, sym, ◌∙◌, ap, get_or, unsigned_abs, List, ℕ}
+use Rattle.std.proofs.Common.{arith, ◌≡◌, ◌≤◌, ◌<◌, length, subst, sym, ◌∙◌, ap, get_or, unsigned_abs}
 use Rattle.std.proofs.lemmas.List.{get_or_default}
 use Rattle.rst_clause.specs.Trails.{Trail'}
 use Rattle.rst_clause.proofs.trail.Trail.reason.Goals as goal

@@ -1,5 +1,4 @@
-use Rattle.std.proofs.Common.{◌≡◌, ◌-◌, length, take}
-use Rattle.rst_clause.specs.Trails.{AreMarks}
+use Rattle.std.proofs.Common.{length}
 use Rattle.rst_clause.proofs.Marks.{Truncating}
 use Rattle.rst_clause.proofs.trail.Trail.truncate.Given as goal
 
