@@ -1,0 +1,3 @@
+pub mod Resolved
+pub mod Stands
+pub mod Turns
