@@ -1,5 +1,5 @@
--- The conditions of form S on a source, and the sources that a text spells.
-use Rattle.std.specs.Prelude.{◌≡◌, ℕ, ◌≤◌, Bool, true, false, not, ◌&&◌, ◌||◌, List, [], ◌∷◌, length, map, bytes_eq, IsTrue}
+-- The conditions of form S on a source.
+use Rattle.std.specs.Prelude.{◌≡◌, ℕ, ◌≤◌, Bool, true, false, not, ◌&&◌, ◌||◌, List, [], ◌∷◌, length, map, bytes_eq, nat_le, IsTrue}
 use Rattle.std.specs.List.{list_any, list_all}
 use Rattle.rst_small_tree.specs.declared.tree.Port.{Port}
 use Rattle.rst_small_tree.specs.declared.tree.Port.TheVariants as port
@@ -66,3 +66,14 @@ pub record IsOfForm (top clock : List ℕ) (source : Source) : Type 0 where
   pub each_output : IsTrue (are_listed (target_names source) (register_names source))
   -- outputs and inputs other than the clock are read
   pub reads : IsTrue (list_all (λ (block : Block). body_reads (register_names source) (input_names source clock) block.body) source.blocks)
+
+-- all of them as one test
+abbrev pub is_of_form : List ℕ → List ℕ → Source → Bool
+is_of_form top clock source = (bytes_eq source.name top && nat_le (length (register_names source)) 256 && nat_le (length (input_names source clock)) 256
+    && list_any (is_input clock) source.ports)
+    && (list_all (λ (block : Block). bytes_eq block.edge clock) source.blocks
+    && list_all (λ (block : Block). sets_one block.body) source.blocks
+    && list_all (λ (block : Block). body_reads (register_names source) (input_names source clock) block.body) source.blocks)
+    && (are_listed (register_names source) (target_names source) && are_listed (target_names source) (register_names source)
+    && is_distinct (target_names source))
+    && is_distinct (map port_name source.ports)

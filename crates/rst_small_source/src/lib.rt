@@ -5,10 +5,13 @@ mod design;
 mod form;
 mod laws;
 mod names;
+mod read;
 mod resolve;
 mod rules;
 mod run;
+mod symbols;
 
 pub use design::Design;
 pub use laws::sound_reading;
+pub use read::read_small_source;
 pub use run::knows;
