@@ -1,0 +1,4 @@
+pub mod Resolved
+pub mod Stands
+pub mod Turns
+pub mod Spelled

@@ -1,0 +1,17 @@
+//! Sources of form S: the conditions on them, the machine that they mean, and their three-valued run.
+#![tactic(auto)]
+
+mod design;
+mod form;
+mod laws;
+mod names;
+mod read;
+mod resolve;
+mod rules;
+mod run;
+mod symbols;
+
+pub use design::Design;
+pub use laws::sound_reading;
+pub use read::read_small_source;
+pub use run::knows;

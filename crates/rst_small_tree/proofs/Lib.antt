@@ -1,0 +1,4 @@
+pub mod Many
+pub mod Takes
+pub mod Sound
+pub mod Whole

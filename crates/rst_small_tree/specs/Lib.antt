@@ -1,0 +1,4 @@
+pub mod Marks
+pub mod Tree
+pub mod Gives
+pub mod Reading
