@@ -3,7 +3,8 @@ use Rattle.std.proofs.Common.{◌≡◌, ℕ, Bool, List, Option, Some, None, re
 use Rattle.rst_outside.specs.declared.desk.DeskFile.{DeskFile}
 use Rattle.rst_small_script.specs.Fitting.{FitsInputs, sequence_of}
 use Rattle.rst_small_source.specs.Designs.{DesignOf}
-use Rattle.rst_small_source.specs.Meaning.{input_names, terns_of}
+use Rattle.rst_small_source.specs.Names.{input_names}
+use Rattle.rst_small_source.specs.Meaning.{terns_of}
 use Rattle.rst_gate.specs.TernMachine.{Knows}
 use Rattle.rst_small_script.specs.declared.script.Script.{Script}
 use Rattle.rst_small_script.specs.Script.{SpellsScript}

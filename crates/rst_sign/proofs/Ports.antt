@@ -2,7 +2,7 @@
 use Rattle.std.proofs.Common.{◌≡◌, ℕ, ◌+◌, ◌≤◌, List, [], ◌∷◌, length, refl, arith, ap, sym, ◌∙◌}
 use Rattle.rst_outside.specs.declared.names.PortBits.{PortBits}
 use Rattle.rst_texts.specs.ReportText.{width_sum}
-use Rattle.rst_small_source.specs.Ports.{bit_ports}
+use Rattle.rst_small_source.specs.Names.{bit_ports}
 
 pub widths : (names : List (List ℕ)) → width_sum (bit_ports names) ≡ length names
 widths [] = refl

@@ -307,6 +307,19 @@ module _ (words : List (List ℕ)) (old new : Outside) (outcome : Outcome) (run 
   verdict_promise one files told memory script source x =
       verdict_kept (signed_due words script source).answer outcome (writes one files told memory _ (signed script source x refl)).carries
 
+  -- the verdict, exactly
+  pub verdict_exactly : OneDue → (files : List DeskFile) → old.files ≡ Some files → outcome.status ≢ NoMemory → (seq : List (List Bool))
+      → (outcome.verdict ≡ Some (SignedKnown seq)) ↔ ((script : Script) × (source : Source) × IsKnown words files outcome.unread script source × (seq ≡ sequence script source))
+  verdict_exactly one files told memory seq =
+      let d = due_told files told memory in (
+        (λ has.
+            let known = known_from words files outcome.unread d.0 (SignedKnown seq) d.1 (sym (verdict_kept d.0.answer outcome d.2) ∙ has) in
+            let equal : SignedKnown seq ≡ SignedKnown (sequence known.0 known.1) = known.3 in
+            let same : seq ≡ sequence known.0 known.1 = cc in
+            (known.0, known.1, known.2, same)),
+        (λ x. verdict_promise one files told memory x.0 x.1 x.2 ∙ ap (λ (s : List (List Bool)). Some (SignedKnown s)) (sym x.3)),
+      )
+
   pub always_signed : OneDue → (files : List DeskFile) → old.files ≡ Some files
       → (Rose old.load_faults new.load_faults → ⊥) → (Rose old.save_faults new.save_faults → ⊥) → (Rose old.put_faults new.put_faults → ⊥)
       → (script : Script) (source : Source) → IsKnown words files None script source → (outcome.status ≡ Signed) ⊎ (outcome.status ≡ NoMemory)

@@ -9,7 +9,8 @@ use Rattle.rst_small_script.specs.Script.{SpellsScript}
 use Rattle.rst_small_script.specs.Fitting.{FitsInputs, sequence_of}
 use Rattle.rst_small_tree.specs.Tree.{Source}
 use Rattle.rst_small_source.specs.Form.{SpellsSource}
-use Rattle.rst_small_source.specs.Meaning.{input_names, machine_of, terns_of}
+use Rattle.rst_small_source.specs.Names.{input_names}
+use Rattle.rst_small_source.specs.Meaning.{machine_of, terns_of}
 use Rattle.rst_sign.specs.declared.words.Command.TheVariants.{Check}
 use Rattle.rst_sign.specs.Words.{word, command_of}
 use Rattle.rst_sign.specs.Loads.{Gives}

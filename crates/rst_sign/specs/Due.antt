@@ -8,8 +8,7 @@ use Rattle.rst_texts.specs.declared.head.Head.{Head}
 use Rattle.rst_texts.specs.ReportText.{report_text}
 use Rattle.rst_small_script.specs.declared.script.Script.{Script}
 use Rattle.rst_small_tree.specs.Tree.{Source}
-use Rattle.rst_small_source.specs.Meaning.{input_names, register_names}
-use Rattle.rst_small_source.specs.Ports.{bit_ports}
+use Rattle.rst_small_source.specs.Names.{input_names, register_names, bit_ports}
 use Rattle.rst_sign.specs.declared.answer.Code.{Code}
 use Rattle.rst_sign.specs.declared.answer.Code.TheVariants.{TooLong, NotBuilt, NotKnown}
 use Rattle.rst_sign.specs.declared.answer.Answer.TheVariants.{NoCommand, Unread, Refused, Decided}

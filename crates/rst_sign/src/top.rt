@@ -1,5 +1,5 @@
 // The top call.
-ghost use Rattle.std.specs.Prelude.{◌≡◌, ◌≢◌, ◌⊎◌, ◌↔◌, ℕ, List, None, Some, IfSome, IfNone, IsNone, IsSome, IfOk};
+ghost use Rattle.std.specs.Prelude.{◌≡◌, ◌≢◌, ◌⊎◌, ◌↔◌, ℕ, Bool, List, None, Some, IfSome, IfNone, IsNone, IsSome, IfOk};
 ghost use Rattle.std.specs.Io.KnownBytes.{Appends};
 ghost use Rattle.rst_outside.specs.Causes.{Rose, AppendsPrefix};
 ghost use Rattle.rst_outside.specs.Files.{IsHeldUnder, ChangesOnly};
@@ -110,10 +110,10 @@ pub fn run<K: Desk, S: Sink>(
         × (result.verdict ≡ Some (Verdict.SignedKnown (sequence script source)))
         × Signs (machine script source) (sequence script source)) }
 
-    // The verdict comes of all such texts.
-    ensures verdict { result.status ≢ Status.NoMemory → IfSome (K.files desk.old) (λ files. (script : Script) (source : Source)
-        → IsKnown (words_of words.now.items) files result.unread script source
-        → result.verdict ≡ Some (Verdict.SignedKnown (sequence script source))) }
+    // The verdict comes exactly of such texts, with their sequence, also where a write failed.
+    ensures verdict { result.status ≢ Status.NoMemory → IfSome (K.files desk.old) (λ files. (seq : List (List Bool))
+        → (result.verdict ≡ Some (Verdict.SignedKnown seq)) ↔ ((script : Script) × (source : Source)
+        × IsKnown (words_of words.now.items) files result.unread script source × (seq ≡ sequence script source))) }
 
     // ALWAYS SIGNED. Where no count of faults rises, such texts are signed, unless memory runs out.
     ensures always_signed { IfSome (K.files desk.old) (λ files. (script : Script) (source : Source)

@@ -1,7 +1,7 @@
 -- Each promise of the top call.
 use Rattle.std.proofs.Common.{refl}
 use Rattle.rst_sign.specs.Words.{words_of}
-use Rattle.rst_sign.proofs.Promises.{if_told, not_no_memory, other_files, known_signs, due_told, writes, signed_promise, verdict_promise, always_signed, usage_promise, usage_only, usage_text, read_fault_has, rejected_has, earlier_promise, too_long_exactly, not_built_exactly, not_known_exactly, kept_verdict, kept_reject, kept_unread, no_certificate, write_fault, no_memory_keeps}
+use Rattle.rst_sign.proofs.Promises.{if_told, not_no_memory, other_files, known_signs, due_told, writes, signed_promise, verdict_exactly, always_signed, usage_promise, usage_only, usage_text, read_fault_has, rejected_has, earlier_promise, too_long_exactly, not_built_exactly, not_known_exactly, kept_verdict, kept_reject, kept_unread, no_certificate, write_fault, no_memory_keeps}
 use Rattle.rst_sign.proofs.top.run.Goals as goal
 
 pub returns-clause-due : goal.returns-clause-due
@@ -14,7 +14,7 @@ returns-clause-signed g c =
 
 pub returns-clause-verdict : goal.returns-clause-verdict
 returns-clause-verdict g c =
-    λ memory. if_told (g.K.Desk.files c.args.desk.now) _ (λ files told. verdict_promise (words_of c.args.words.now.items) _ _ c.act.result c.act.ensures c.one_due.ensures files told memory)
+    λ memory. if_told (g.K.Desk.files c.args.desk.now) _ (λ files told. verdict_exactly (words_of c.args.words.now.items) _ _ c.act.result c.act.ensures c.one_due.ensures files told memory)
 
 pub returns-clause-always_signed : goal.returns-clause-always_signed
 returns-clause-always_signed g c =
