@@ -5,7 +5,7 @@ use Rattle.rst_outside.specs.Files.{bytes_under}
 use Rattle.rst_small_script.specs.declared.script.Script.{Script}
 use Rattle.rst_small_script.specs.Script.{SpellsScript}
 use Rattle.rst_small_tree.specs.Tree.{Source}
-use Rattle.rst_small_source.specs.Form.{SpellsSource}
+use Rattle.rst_small_source.specs.Spelling.{SpellsSource}
 use Rattle.rst_sign.specs.declared.answer.Code.TheVariants.{TooLong, NotBuilt, NotKnown}
 use Rattle.rst_sign.specs.declared.answer.Due.{Due}
 use Rattle.rst_sign.specs.declared.words.Command.TheVariants.{Check}

@@ -8,7 +8,7 @@ use Rattle.rst_small_script.specs.declared.script.Script.{Script}
 use Rattle.rst_small_script.specs.Script.{SpellsScript}
 use Rattle.rst_small_script.specs.Fitting.{FitsInputs, sequence_of}
 use Rattle.rst_small_tree.specs.Tree.{Source}
-use Rattle.rst_small_source.specs.Form.{SpellsSource}
+use Rattle.rst_small_source.specs.Spelling.{SpellsSource}
 use Rattle.rst_small_source.specs.Names.{input_names}
 use Rattle.rst_small_source.specs.Meaning.{machine_of, terns_of}
 use Rattle.rst_sign.specs.declared.words.Command.TheVariants.{Check}
