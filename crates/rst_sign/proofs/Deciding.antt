@@ -1,5 +1,5 @@
 -- Each end of the loads and of the decision gives what is due.
-use Rattle.std.proofs.Common.{◌≡◌, ℕ, Bool, List, Option, Some, None, refl, subst, sym, ap, ◌∙◌}
+use Rattle.std.proofs.Common.{◌≡◌, ℕ, Bool, true, false, List, Option, Some, None, refl, subst, sym, ap, ◌∙◌}
 use Rattle.rst_outside.specs.declared.desk.DeskFile.{DeskFile}
 use Rattle.rst_small_script.specs.Fitting.{FitsInputs, sequence_of}
 use Rattle.rst_small_source.specs.Designs.{DesignOf}
@@ -32,6 +32,10 @@ pub long_stop : (words : List (List ℕ)) (place : ℕ) (due : Due) → due ≡ 
 long_stop words place due is =
     let P : Due → Type 0 = λ d. IsStopDue words (TooLongStop place) d in
     subst P (sym is) (record { is_due = λ files stopped. too_long place stopped refl; unread = refl; some = λ e. cc })
+
+-- a test isn't both
+pub not_both : (b : Bool) → b ≡ true → b ≡ false → ⊥
+not_both b holds fails = let e : true ≡ false = sym holds ∙ fails in cc
 
 -- the script's lines aren't of the form
 pub no_script_decided : (words : List (List ℕ)) (script_text source_text : List ℕ) (due : Due) → due ≡ refused_due words NotBuilt (Some 2)

@@ -2,7 +2,7 @@
 use Rattle.std.proofs.Common.{◌∙◌}
 use Rattle.rst_sign.proofs.Acting.{is_none}
 use Rattle.rst_sign.proofs.Lengths.{lengths}
-use Rattle.rst_sign.proofs.Deciding.{no_script_decided, no_source_decided, found, no_fit_decided, signed_decided}
+use Rattle.rst_sign.proofs.Deciding.{no_script_decided, no_source_decided, found, no_fit_decided, not_known_decided, not_both, signed_decided}
 use Rattle.rst_sign.proofs.check.decide.Goals as goal
 
 pub returns-in_default : goal.returns-in_default
@@ -22,6 +22,13 @@ returns-in_default-3 c =
 
 pub knows-requires : goal.knows-requires
 knows-requires c = lengths c.in-Some.script _ _ c.in-Some-3.seq (rw c.in-Some-3.is at c.in_ok-seq.ensures.found) c.inputs.ensures.names
+
+pub returns-then-not-branch : goal.returns-then-not-branch
+returns-then-not-branch c =
+    not_known_decided _ _ _ c.in-Some.script c.in-Some-2.design _ c.in-Some-3.seq _ c.in_ok-due-4.ensures
+    (found _ _ _ c.in-Some.script c.in-Some-2.design c.as_bytes-top.result.now c.as_slice.result.now (c.as_bytes-top.ensures.value ∙ c.word_at.ensures) c.as_slice.ensures (rw c.in-Some.is at c.in_ok-script.ensures.found) (rw c.in-Some-2.is at c.in_ok-design.ensures.found))
+    c.inputs.ensures.names (rw c.in-Some-3.is at c.in_ok-seq.ensures.fits) (rw c.in-Some-3.is at c.in_ok-seq.ensures.found)
+    (λ known. not_both c.in_ok-knows.field-0 (c.in_ok-knows.ensures.1 known) c.if-not-branch.true)
 
 pub returns : goal.returns
 returns c =
