@@ -1,0 +1,9 @@
+pub mod Prefix
+pub mod Places
+pub mod Ports
+pub mod Lengths
+pub mod Stops
+pub mod Deciding
+pub mod Acting
+pub mod OneDue
+pub mod Promises

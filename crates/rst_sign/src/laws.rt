@@ -1,0 +1,18 @@
+// Laws of the due answer.
+ghost use Rattle.std.specs.Prelude.{◌≡◌, ℕ, List};
+ghost use Rattle.std.specs.declared.option.Option.{Option};
+ghost use Rattle.rst_outside.specs.declared.desk.DeskFile.{DeskFile};
+ghost use Rattle.rst_sign.specs.declared.answer.Due.{Due as Due_};
+ghost use Rattle.rst_sign.specs.Due.{IsDue};
+
+use rst_small_script::laws::one_script;
+use rst_small_source::laws::one_source;
+
+/// At most one answer is due of words, files and the place of the word whose load failed, if one did.
+pub fn one_due()
+    ensures { (words : List (List ℕ)) (files : List DeskFile) (failed : Option ℕ) (a b : Due_)
+        → IsDue words files failed a → IsDue words files failed b → a ≡ b }
+{
+    one_script();
+    one_source();
+}
