@@ -1,0 +1,25 @@
+//! Laws of the grammar.
+
+ghost use Rattle.std.specs.Prelude.{◌≡◌, List};
+ghost use Rattle.rst_tree.specs.Trees.{Tree};
+ghost use Rattle.rst_tree.specs.Targets.{Place};
+ghost use Rattle.rst_tree.specs.Statements.{Statement};
+ghost use Rattle.rst_grammar.specs.Expressions.{Spells};
+ghost use Rattle.rst_grammar.specs.Targets.{SpellsTarget};
+ghost use Rattle.rst_grammar.specs.Statements.{SpellsStmt};
+ghost use Rattle.rst_grammar.specs.declared.symbol.Symbol.{Symbol};
+
+/// A list of symbols has at most one expression.
+pub fn one_tree()
+    ensures { (e f : Tree) (ts : List Symbol) → Spells e ts → Spells f ts → e ≡ f }
+{}
+
+/// A list of symbols has at most one target.
+pub fn one_target()
+    ensures { (s t : Place) (ts : List Symbol) → SpellsTarget s ts → SpellsTarget t ts → s ≡ t }
+{}
+
+/// A list of symbols has at most one statement.
+pub fn one_statement()
+    ensures { (s t : Statement) (ts : List Symbol) → SpellsStmt s ts → SpellsStmt t ts → s ≡ t }
+{}
