@@ -1,0 +1,113 @@
+-- One line of a log: the opposites of its literals on the trail, and what propagation finds from them.
+use Rattle.std.proofs.Common.{◌≡◌, ◌≢◌, ℕ, zero, suc, ◌+◌, ◌<◌, ◌≤◌, ◌⊎◌, inl, inr, ℤ, List, [], ◌∷◌, ◌++◌, length, take, get_or, refl, sym, ◌∙◌, subst, ap, arith, append-nil, add-one}
+use Rattle.std.specs.List.{Contains}
+use Rattle.std.proofs.Math.Seq.{take-suc}
+use Rattle.std.proofs.lemmas.List.Elements.{Contains-get_or, Contains-push, Contains-push_cases, Contains-append_left, Contains-append_right, Contains-append_cases}
+use Rattle.rst_clause.specs.Literals.{opposite}
+use Rattle.rst_clause.specs.Propagation.{Derived, Closes, units_against, Follows, AllDerived}
+use Rattle.rst_clause.specs.Propagation.Derived.{unit}
+use Rattle.rst_clause.specs.Trails.{Trail', pushed, Grows, IsComplete, IsQuiet, IsConsistent, AllFalse}
+use Rattle.rst_clause.proofs.Members.{Contains-nil, Contains-first, Contains-one, Contains-map, Contains-from_map, opposite-opposite}
+use Rattle.rst_clause.proofs.Extending.{derived_more}
+use Rattle.rst_clause.proofs.Grown.{grown_derived, false_closes, complete_open, Continues, continues_more, grown_continues, continues_has}
+use Rattle.rst_check.specs.Lines.{Begins}
+
+-- the trail continues the old one by the opposites of these literals, and all that stands is implied by the
+-- clauses with the line's literals false
+pub record Assumed (cs : List (List ℤ)) (old : Trail') (done line : List ℤ) (trail : Trail') : Type 0 where
+  pub vars : trail.vars ≡ old.vars
+  pub continues : Continues old.lits trail.lits
+  pub against : (k : ℤ) → Contains done k → Contains trail.lits (opposite k)
+  pub derived : AllDerived (units_against line ++ cs) trail.lits
+
+pub assumed_start : (cs : List (List ℤ)) (t : Trail') (line : List ℤ) → AllDerived cs t.lits → Assumed cs t (take 0 line) line t
+assumed_start cs t line d = record {
+  vars = refl;
+  continues = ([], sym (append-nil t.lits));
+  against = λ k h. absurd (Contains-nil k h);
+  derived = λ k h. derived_more cs (units_against line ++ cs) (λ c i. Contains-append_right (units_against line) cs c i) k (d k h);
+}
+
+-- the opposite of a literal of the line is derived
+against_derived : (cs : List (List ℤ)) (line : List ℤ) (j : ℤ) → Contains line j → Derived (units_against line ++ cs) (opposite j)
+against_derived cs line j h =
+    unit (opposite j ∷ []) (opposite j)
+    (Contains-append_left (units_against line) cs (opposite j ∷ []) (Contains-map (λ l. opposite l ∷ []) line j h))
+    (Contains-first (opposite j) [])
+    (λ k kin ne. absurd (ne (sym (Contains-one (opposite j) k kin))))
+
+-- a clause that is false after propagation
+pub found_follows : (cs : List (List ℤ)) (old : Trail') (done line : List ℤ) (s t : Trail') (i : ℕ) → Assumed cs old done line s
+    → Grows cs s t → i < length cs → AllFalse t.lits (get_or cs i []) → Follows cs line
+found_follows cs old done line s t i st g lt f =
+    false_closes (units_against line ++ cs) t.lits (get_or cs i [])
+    (Contains-append_right (units_against line) cs (get_or cs i []) (Contains-get_or cs i [] lt))
+    (grown_derived cs (units_against line ++ cs) s t (λ c h. Contains-append_right (units_against line) cs c h) g st.derived)
+    f
+
+grown_has : (cs : List (List ℤ)) (s t : Trail') → Grows cs s t → (k : ℤ) → Contains s.lits k → Contains t.lits k
+grown_has cs s t g k h = continues_has s.lits t.lits (grown_continues cs s.lits s t g ([], sym (append-nil s.lits))) k h
+
+-- nothing is false after propagation
+pub none_follows : (cs : List (List ℤ)) (old : Trail') (line : List ℤ) (s t : Trail') → Assumed cs old line line s
+    → Grows cs s t → IsConsistent t.lits → IsComplete t.lits cs → Follows cs line → ⊥
+none_follows cs old line s t st g con q = complete_open (units_against line ++ cs) t.lits (λ c h.
+    elim (Contains-append_cases (units_against line) cs c h) [
+      | inr i ↦ q c i
+      | inl i ↦
+          let r : (j : ℤ) × Contains line j × (c ≡ opposite j ∷ []) = Contains-from_map (λ l. opposite l ∷ []) line c i in
+          let stands : Contains t.lits (opposite r.0) = grown_has cs s t g (opposite r.0) (st.against r.0 r.1) in
+          subst (λ z. IsQuiet t.lits z) (sym r.2) (record {
+            not_false = λ f. con (opposite r.0) stands (f (opposite r.0) (Contains-first (opposite r.0) []));
+            implied = λ l lin b. subst (λ z. Contains t.lits z) (Contains-one (opposite r.0) l lin) stands;
+          })
+    ])
+
+-- a line with a literal that stands
+pub stands_follows : (cs : List (List ℤ)) (old : Trail') (done line : List ℤ) (t : Trail') (l : ℤ) → Assumed cs old done line t
+    → Contains line l → Contains t.lits l → Follows cs line
+stands_follows cs old done line t l s lin h = (
+  opposite l ∷ [],
+  Contains-append_left (units_against line) cs (opposite l ∷ []) (Contains-map (λ z. opposite z ∷ []) line l lin),
+  λ k kin. subst (λ z. Derived (units_against line ++ cs) z) (sym (ap opposite (sym (Contains-one (opposite l) k kin)) ∙ opposite-opposite l))
+      (s.derived l h),
+)
+
+pub assumed_begins : (cs : List (List ℤ)) (old : Trail') (done line : List ℤ) (t : Trail') → Assumed cs old done line t → Begins old t
+assumed_begins cs old done line t s = record { vars = s.vars; more = s.continues.0; lits = s.continues.1 }
+
+pub grown_begins : (cs : List (List ℤ)) (old : Trail') (done line : List ℤ) (s t : Trail') → Assumed cs old done line s → Grows cs s t → t.vars ≡ s.vars → Begins old t
+grown_begins cs old done line s t st g v =
+    let c : Continues old.lits t.lits = grown_continues cs old.lits s t g st.continues in
+    record { vars = v ∙ st.vars; more = c.0; lits = c.1 }
+
+module _ (cs : List (List ℤ)) (old : Trail') (line : List ℤ) (i : ℕ) (l : ℤ) (t : Trail') (lt : i < length line) (is : l ≡ get_or line i l) where
+  more_line : take (i + 1) line ≡ take i line ++ l ∷ []
+  more_line = rw add-one (take-suc line i l lt ∙ ap (λ z. take i line ++ z ∷ []) (sym is))
+
+  pub line_has : Contains line l
+  line_has = subst (λ z. Contains line z) (sym is) (Contains-get_or line i l lt)
+
+  pub assumed_there : Assumed cs old (take i line) line t → Contains t.lits (opposite l) → Assumed cs old (take (i + 1) line) line t
+  assumed_there s h = record {
+    vars = s.vars;
+    continues = s.continues;
+    against = subst (λ z. (k : ℤ) → Contains z k → Contains t.lits (opposite k)) (sym more_line) (λ k kin.
+        elim (Contains-push_cases (take i line) l k kin) [ inl j ↦ s.against k j | inr e ↦ subst (λ z. Contains t.lits (opposite z)) e h ]);
+    derived = s.derived;
+  }
+
+  pub assumed_pushed : (r : ℕ) → Assumed cs old (take i line) line t → Assumed cs old (take (i + 1) line) line (pushed t (opposite l) r)
+  assumed_pushed r s = record {
+    vars = s.vars;
+    continues = continues_more old.lits t.lits (opposite l) s.continues;
+    against = subst (λ z. (k : ℤ) → Contains z k → Contains (t.lits ++ opposite l ∷ []) (opposite k)) (sym more_line) (λ k kin.
+        elim (Contains-push_cases (take i line) l k kin) [
+          | inl j ↦ Contains-append_left t.lits (opposite l ∷ []) (opposite k) (s.against k j)
+          | inr e ↦ subst (λ z. Contains (t.lits ++ opposite l ∷ []) (opposite z)) e (Contains-push t.lits (opposite l))
+        ]);
+    derived = λ k kin. elim (Contains-push_cases t.lits (opposite l) k kin) [
+      | inl j ↦ s.derived k j
+      | inr e ↦ subst (λ z. Derived (units_against line ++ cs) z) e (against_derived cs line l line_has)
+    ];
+  }
