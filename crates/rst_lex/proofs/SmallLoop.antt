@@ -224,3 +224,13 @@ from_kinds {at} {text} whole front e n (token {tokens = tokens} kind bs rest b s
 
 pub kinds_in : (text : List ℕ) (tokens : List Token) → SmallTokens text tokens → All (IsSmallIn text) tokens
 kinds_in text tokens l = from_kinds text [] refl refl l
+
+-- ---- one list
+
+-- a text is at most one list of tokens
+pub one_list : {at : ℕ} {text : List ℕ} {tokens : List Token} (others : List Token) → SmallTokensFrom at text tokens → SmallTokensFrom at text others → tokens ≡ others
+one_list others done l = sym (nothing_more refl l)
+one_list others (blank {b = b} {rest = rest} f more) l = one_list others more (behind_blank b rest refl f l)
+one_list {at} others (token kind bs rest b s more) l =
+    let o = behind_token kind bs rest b s l in
+    ap (λ k. record { kind = kind; start = at; end = at + length bs } ∷ k) (one_list o.others more o.more) ∙ sym o.all

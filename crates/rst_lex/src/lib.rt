@@ -2,12 +2,14 @@
 #![tactic(auto)]
 
 mod bytes;
+mod laws;
 mod lines;
 mod small;
 mod small_front;
 mod token;
 mod words;
 
+pub use laws::one_small_list;
 pub use lines::line_of;
 pub use small::lex_small;
 pub use token::{Literal, Token, TokenKind};
