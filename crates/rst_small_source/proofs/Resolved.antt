@@ -40,7 +40,7 @@ found_value : {X : Type 0} (other : X) (names : List (List ℕ)) (values : List 
 found_value other [] values name long = refl
 found_value other (n ∷ ns) [] name long = absurd (omega arith)
 found_value other (n ∷ ns) (v ∷ vs) name long = by_test (bytes_eq n name)
-  (found_value other ns vs name (omega arith) ∙ sym (ap (at_found other (v ∷ vs)) (shift (λ m. bytes_eq m name) 0 ns) ∙ behind_first other v vs (position_from (λ m. bytes_eq m name) 0 ns)))
+    (found_value other ns vs name (omega arith) ∙ sym (ap (at_found other (v ∷ vs)) (shift (λ m. bytes_eq m name) 0 ns) ∙ behind_first other v vs (position_from (λ m. bytes_eq m name) 0 ns)))
   where
     by_test : (b : Bool) → value_among other ns vs name ≡ at_found other (v ∷ vs) (position_from (λ m. bytes_eq m name) 1 ns)
         → (if b then v else value_among other ns vs name) ≡ at_found other (v ∷ vs) (cond b (Some 0) (position_from (λ m. bytes_eq m name) 1 ns))
@@ -61,6 +61,7 @@ module _ {X : Type 0} (O : Operations X) (registers inputs : List (List ℕ)) (s
     where
       test : List ℕ → Bool
       test n = bytes_eq n name
+
       by_place : (r i : Option ℕ) (other : X) → ((k : ℕ) → r ≡ Some k → k < length state) → other ≡ at_found O.low input i
           → place_value O state input (place_among r i) ≡ at_found other state r
       by_place (Some k) i other within is = get_or_default state k O.low other (within k refl)

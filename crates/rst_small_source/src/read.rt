@@ -50,13 +50,7 @@ fn design(
     let input_ports = bit_ports(alloc, inputs)?;
     let register_ports = bit_ports(alloc, registers)?;
     let clock = Name::new(alloc, clock)?;
-    Ok(Some(Design::new(
-        source,
-        clock,
-        input_ports,
-        register_ports,
-        rules,
-    )))
+    Ok(Some(Design::new(source, clock, input_ports, register_ports, rules)))
 }
 
 /// The design of a text of form S, or `None` where the text isn't of form S.

@@ -75,11 +75,7 @@ fn text_of(text: &[u8], token: Token) -> &[u8]
 }
 
 /// What the tokens of a text are to the grammar.
-pub(crate) fn symbols(
-    alloc: Global,
-    text: &[u8],
-    tokens: &[Token],
-) -> Result<Vec<Symbol>, NoMemory>
+pub(crate) fn symbols(alloc: Global, text: &[u8], tokens: &[Token]) -> Result<Vec<Symbol>, NoMemory>
     requires { InOrder 0 (length text.now) tokens.now }
     ensures { IfOk result (λ symbols. symbols.items ≡ map (token_symbol text.now) tokens.now) }
 {
