@@ -1,6 +1,5 @@
 -- The report of a verdict as a text.
-use Rattle.std.specs.Prelude.{ℕ, ◌+◌, Bool, List, [], ◌∷◌, ◌++◌, length, map, take, drop, codes}
-use Rattle.std.specs.Fmt.{decimal}
+use Rattle.std.specs.Prelude.{ℕ, ◌+◌, Bool, List, [], ◌∷◌, ◌++◌, length, take, drop, codes}
 use Rattle.rst_outside.specs.declared.names.PortBits.{PortBits}
 use Rattle.rst_cert.specs.declared.cert.Verdict.{Verdict}
 use Rattle.rst_cert.specs.declared.cert.Verdict.TheVariants.{SignedKnown}

@@ -154,29 +154,46 @@ mod tests {
         Ok(Ports::from_vec(ports))
     }
 
-    fn two_ports(alloc: Global, first: PortBits, second: PortBits) -> Result<Ports, NoMemory>
-        ensures { IfOk result (λ ports. width_sum ports ≡ first.width + second.width) }
+    // A reset input of one bit, and data of four.
+    fn two_ports(alloc: Global) -> Result<Ports, NoMemory>
+        ensures { IfOk result (λ ports. width_sum ports ≡ 5) }
     {
+        let data = port(alloc, b"d_$", 4)?;
+        let reset = port(alloc, b"rst", 1)?;
         let mut ports = Vec::new(alloc);
-        ports.push(first)?;
-        ports.push(second)?;
-        Ok(Ports::from_vec(ports))
+        ports.push(data)?;
+        ports.push(reset)?;
+        Ports::from_slice(alloc, ports.as_slice())
+    }
+
+    fn signed(alloc: Global, inputs: &[&[bool]]) -> Result<Verdict, NoMemory> {
+        let mut seq = Sequence::new(alloc);
+        for input in inputs {
+            seq.push(Bits::from_slice(alloc, input)?)?;
+        }
+        Ok(Verdict::SignedKnown { seq })
+    }
+
+    // The report of a verdict on a design with these inputs and one register that it shows.
+    fn report(alloc: Global, inputs: Ports, width: u8, verdict: &Verdict) -> Result<Bytes, NoMemory>
+        requires { width_sum inputs ≤ 256 }
+    {
+        let head = Head {
+            top: Name::new(alloc, b"t")?,
+            inputs,
+            outputs: one_port(alloc, b"q", width)?,
+            registers: one_port(alloc, b"q", width)?,
+            budget: 20_000,
+        };
+        report_text(alloc, &head, verdict)
     }
 
     // A reset in one cycle by one input.
     #[test]
     fn report_of_a_toggle(rt: HostRuntime) -> Result<(), Fail> {
         let alloc = rt.alloc();
-        let head = Head {
-            top: Name::new(alloc, b"t")?,
-            inputs: one_port(alloc, b"rst", 1)?,
-            outputs: one_port(alloc, b"q", 1)?,
-            registers: one_port(alloc, b"q", 1)?,
-            budget: 20_000,
-        };
-        let mut seq = Sequence::new(alloc);
-        seq.push(Bits::from_slice(alloc, &[true])?)?;
-        let text = report_text(alloc, &head, &Verdict::SignedKnown { seq })?;
+        let verdict = signed(alloc, &[&[true]])?;
+        let text = report(alloc, one_port(alloc, b"rst", 1)?, 1, &verdict)?;
         assert_eq!(rt;
             text.as_slice(),
             b"SIGNED known\ndesign t registers 1 inputs 1 outputs 1\nsequence 1\ncycle 0 rst=1\n".as_slice()
@@ -188,21 +205,17 @@ mod tests {
     #[test]
     fn report_with_a_vector(rt: HostRuntime) -> Result<(), Fail> {
         let alloc = rt.alloc();
-        let both = two_ports(alloc, port(alloc, b"a", 4)?, port(alloc, b"b_$", 1)?)?;
-        let head = Head {
-            top: Name::new(alloc, b"top")?,
-            inputs: Ports::from_slice(alloc, both.as_slice())?,
-            outputs: Ports::from_vec(Vec::new(alloc)),
-            registers: one_port(alloc, b"u0.state", 64)?,
-            budget: 0,
-        };
-        let mut seq = Sequence::new(alloc);
-        seq.push(Bits::from_slice(alloc, &[true, false, true, true, false])?)?;
-        seq.push(Bits::from_slice(alloc, &[false, false, false, true, true])?)?;
-        let text = report_text(alloc, &head, &Verdict::SignedKnown { seq })?;
+        let verdict = signed(
+            alloc,
+            &[
+                &[true, false, true, true, false],
+                &[false, false, false, true, true],
+            ],
+        )?;
+        let text = report(alloc, two_ports(alloc)?, 64, &verdict)?;
         assert_eq!(rt;
             text.as_slice(),
-            b"SIGNED known\ndesign top registers 64 inputs 5 outputs 0\nsequence 2\ncycle 0 a=1011 b_$=0\ncycle 1 a=0001 b_$=1\n".as_slice()
+            b"SIGNED known\ndesign t registers 64 inputs 5 outputs 64\nsequence 2\ncycle 0 d_$=1011 rst=0\ncycle 1 d_$=0001 rst=1\n".as_slice()
         );
         Ok(())
     }
