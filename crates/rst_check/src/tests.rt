@@ -34,48 +34,31 @@ fn log_of(alloc: Global, numbers: &[i32], ends: bool) -> Result<Log, NoMemory> {
     Ok(log)
 }
 
+// Whether the log of these lines refutes the query.
+fn verdict(alloc: Global, both: bool, numbers: &[i32], ends: bool) -> Result<bool, NoMemory> {
+    let clauses = query(alloc, both)?;
+    let log = log_of(alloc, numbers, ends)?;
+    let yes = refutes(alloc, &clauses, &log)?;
+    Ok(yes)
+}
+
 #[test]
 fn logs_refute_or_not(rt: HostRuntime) -> Result<(), Fail> {
-    let alloc = rt.alloc();
-    let both = query(alloc, true)?;
-    let differ = query(alloc, false)?;
-    assert_eq!(rt; refutes(alloc, &both, &log_of(alloc, &[], true)?)?, true);
-    assert_eq!(rt;
-        refutes(alloc, &both, &log_of(alloc, &[1, -3], true)?)?,
-        true
-    );
-    assert_eq!(rt;
-        refutes(alloc, &both, &log_of(alloc, &[], false)?)?,
-        false,
-        "no line"
-    );
-    assert_eq!(rt;
-        refutes(alloc, &both, &log_of(alloc, &[1], false)?)?,
-        false,
-        "no empty end"
-    );
-    assert_eq!(rt;
-        refutes(alloc, &both, &log_of(alloc, &[9], true)?)?,
-        false,
-        "out of range"
-    );
-    assert_eq!(rt;
-        refutes(alloc, &both, &log_of(alloc, &[2147483647], true)?)?,
-        false
-    );
-    assert_eq!(rt;
-        refutes(alloc, &both, &log_of(alloc, &[-2147483648], true)?)?,
-        false
-    );
-    assert_eq!(rt;
-        refutes(alloc, &differ, &log_of(alloc, &[], true)?)?,
-        false,
-        "has a solution"
-    );
-    assert_eq!(rt;
-        refutes(alloc, &differ, &log_of(alloc, &[1], true)?)?,
-        false,
-        "does not follow"
-    );
+    // A number 0 stands for no line.
+    let rows = [
+        (true, [0, 0], true, true),
+        (true, [1, -3], true, true),
+        (true, [0, 0], false, false),
+        (true, [1, 0], false, false),
+        (true, [9, 0], true, false),
+        (true, [2147483647, 0], true, false),
+        (true, [-2147483648, 0], true, false),
+        (false, [0, 0], true, false),
+        (false, [1, 0], true, false),
+    ];
+    for (i, (both, numbers, ends, want)) in rows.iter().enumerate() {
+        let yes = verdict(rt.alloc(), *both, numbers, *ends)?;
+        assert_eq!(rt; yes, *want, "row {i}");
+    }
     Ok(())
 }
