@@ -39,5 +39,8 @@ is_name bytes = is_identifier bytes && not (is_keyword bytes)
 abbrev pub IsIdentifier : List ℕ → Type 0
 IsIdentifier bytes = IsTrue (is_identifier bytes)
 
+abbrev pub IsKeyword : List ℕ → Type 0
+IsKeyword bytes = IsTrue (is_keyword bytes)
+
 abbrev pub IsName : List ℕ → Type 0
 IsName bytes = IsTrue (is_name bytes)

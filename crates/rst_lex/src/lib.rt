@@ -2,12 +2,17 @@
 #![tactic(auto)]
 
 mod bytes;
+mod front;
+mod lexer;
+mod literal;
 mod lines;
+mod piece;
 mod small;
 mod small_front;
 mod token;
 mod words;
 
+pub use lexer::{LexFault, lex, one_reading};
 pub use lines::line_of;
 pub use small::lex_small;
 pub use token::{Literal, Token, TokenKind};
