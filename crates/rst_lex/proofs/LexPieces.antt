@@ -65,7 +65,7 @@ found_parts : (text : List ℕ) (size gap : ℕ) (tail : Tail) (s : BasedSays te
 found_parts text size gap tail s = s.head.parts ∙ ap (λ m. s.size ++ (s.gap ++ 39 ∷ m)) s.says.splits.parts ∙ sym (based_behind (found s) s.says.behind)
 
 found_based : (text : List ℕ) (size gap : ℕ) (tail : Tail) (s : BasedSays text size gap tail) → IsBased (based_text (found s)) (found s)
-found_based text size gap tail s = record { text = refl; sized = s.head.sized; signed = s.says.splits.signed; spaced = s.says.splits.spaced; digits = s.says.splits.digits }
+found_based text size gap tail s = record { text = refl; sized = s.head.sized; signed = s.says.splits.signed; spaced = s.says.splits.spaced; digits = s.says.splits.given }
 
 found_len : (text : List ℕ) (size gap : ℕ) (tail : Tail) (s : BasedSays text size gap tail) → length (based_text (found s)) ≡ size + gap + tail.sign + tail.space + tail.digits + 2
 found_len text size gap tail s = omega (arith, length_based (found s), s.size_is, s.gap_is, s.says.sign_len, s.says.space_len, s.says.digits_len)
@@ -74,7 +74,7 @@ based_len : (text : List ℕ) (size gap : ℕ) (tail : Tail) (s : BasedSays text
 based_len text size gap tail s front behind e t =
     let p = based_parts text s.size s.gap s.more front behind t.0 s.head e t.1 in
     let same = same_parts s.more t.0.sign t.0.letter t.0.space t.0.digits behind s.says.sign tail.letter s.says.space s.says.digits s.says.behind p.splits s.says.splits in
-    let each = subst (λ k. EachByte (is_digit_behind k) t.0.digits) same.letters (digits_each t.0.letter t.0.digits p.splits.digits) in
+    let each = subst (λ k. EachByte (is_digit_behind k) t.0.digits) same.letters (digits_each t.0.letter t.0.digits p.splits.given) in
     let run = run_longest (is_digit_behind tail.letter) (s.says.digits ++ s.says.behind) t.0.digits behind (sym same.afters) each in
     omega (arith, ap length t.1.text, length_based t.0, length_based (found s), ap length p.sizes, ap length p.gaps, ap length same.signs, ap length same.spaces, run, s.says.all_digits)
 

@@ -76,7 +76,7 @@ pub record Splits (more sign : List ℕ) (letter : ℕ) (space digits behind : L
   pub parts : more ≡ sign ++ letter ∷ (space ++ (digits ++ behind))
   pub signed : IsSign sign
   pub spaced : EachByte is_space space
-  pub digits : IsDigitsBehind letter digits
+  pub given : IsDigitsBehind letter digits
 
 pub digits_each : (letter : ℕ) (digits : List ℕ) → IsDigitsBehind letter digits → EachByte (is_digit_behind letter) digits
 digits_each letter [] d = absurd d
@@ -116,11 +116,11 @@ pub tail_of : (more sign : List ℕ) (letter : ℕ) (space digits behind : List 
     → tail_front more ≡ Some (record { sign = length sign; letter = letter; space = length space; digits = prefix_len (is_digit_behind letter) (digits ++ behind) })
 unfolding tail_front
 tail_of more [] letter space digits behind s =
-    ap tail_front s.parts ∙ ap (λ t. cond t (letter_front 1 (space ++ (digits ++ behind))) (letter_front 0 (letter ∷ (space ++ (digits ++ behind))))) (letter_is letter digits s.digits)
-    ∙ letter_of 0 letter space digits behind s.spaced s.digits
+    ap tail_front s.parts ∙ ap (λ t. cond t (letter_front 1 (space ++ (digits ++ behind))) (letter_front 0 (letter ∷ (space ++ (digits ++ behind))))) (letter_is letter digits s.given)
+    ∙ letter_of 0 letter space digits behind s.spaced s.given
 tail_of more (b ∷ []) letter space digits behind s =
     ap tail_front s.parts ∙ ap (λ t. cond t (letter_front 1 (letter ∷ (space ++ (digits ++ behind)))) (letter_front 0 (b ∷ letter ∷ (space ++ (digits ++ behind))))) s.signed
-    ∙ letter_of 1 letter space digits behind s.spaced s.digits
+    ∙ letter_of 1 letter space digits behind s.spaced s.given
 tail_of more (b ∷ c ∷ sign) letter space digits behind s = absurd s.signed
 
 -- The parts that `tail_front` finds; the digits are all that stand there.
@@ -184,7 +184,7 @@ tail_made more sign letter bs tail e g s =
         parts = e ∙ ap (λ t. sign ++ letter ∷ t) (sym (take-append-drop k bs)) ∙ ap (λ t. sign ++ letter ∷ (take k bs ++ t)) (sym whole);
         signed = g;
         spaced = run_fits is_space bs;
-        digits = digits_here letter after s.begins;
+        given = digits_here letter after s.begins;
       };
       sign_len = refl;
       space_len = length-prefix_len is_space bs;
@@ -306,4 +306,4 @@ pub based_parts : (text size gap more front behind : List ℕ) (b : Based) → O
 based_parts text size gap more front behind b o e i =
     let whole = e ∙ ap (λ k. k ++ behind) i.text ∙ based_behind b behind in
     let one = o.only b.size b.gap (b.sign ++ b.letter ∷ (b.space ++ (b.digits ++ behind))) whole i.sized in
-    record { sizes = one.0; gaps = one.1; splits = record { parts = sym one.2; signed = i.signed; spaced = i.spaced; digits = i.digits } }
+    record { sizes = one.0; gaps = one.1; splits = record { parts = sym one.2; signed = i.signed; spaced = i.spaced; given = i.digits } }

@@ -36,28 +36,28 @@ IsNoNumber_of b = IsNoNumber b
 
 -- ---- one based literal
 
-no_parts : (size gap more : List ℕ) → [] ≡ size ++ (gap ++ 39 ∷ more) → ⊥
+no_parts : (size room more : List ℕ) → [] ≡ size ++ (room ++ 39 ∷ more) → ⊥
 no_parts [] [] more e = cc
-no_parts [] (g ∷ gap) more e = cc
-no_parts (b ∷ size) gap more e = cc
+no_parts [] (g ∷ room) more e = cc
+no_parts (b ∷ size) room more e = cc
 
 same_rest : (a b : ℕ) (x y : List ℕ) → a ∷ x ≡ b ∷ y → x ≡ y
 same_rest a b x y e = cc
 
 -- what stands before ' is read in one way
-same_heads : (text size gap more size' gap' more' : List ℕ) → text ≡ size ++ (gap ++ 39 ∷ more) → IsSize size gap → text ≡ size' ++ (gap' ++ 39 ∷ more') → IsSize size' gap'
-    → (size' ≡ size) × (gap' ≡ gap) × (more' ≡ more)
-same_heads [] size gap more size' gap' more' e s f t = absurd (no_parts size gap more e)
-same_heads (a ∷ bs) size gap more size' gap' more' e s f t = by_head (parts_head a bs size gap more e s)
+same_heads : (text size room more size' room' more' : List ℕ) → text ≡ size ++ (room ++ 39 ∷ more) → IsSize size room → text ≡ size' ++ (room' ++ 39 ∷ more') → IsSize size' room'
+    → (size' ≡ size) × (room' ≡ room) × (more' ≡ more)
+same_heads [] size room more size' room' more' e s f t = absurd (no_parts size room more e)
+same_heads (a ∷ bs) size room more size' room' more' e s f t = by_head (parts_head a bs size room more e s)
   where
-    by_head : (is_digit a ≡ true) ⊎ (a ≡ 39) → (size' ≡ size) × (gap' ≡ gap) × (more' ≡ more)
+    by_head : (is_digit a ≡ true) ⊎ (a ≡ 39) → (size' ≡ size) × (room' ≡ room) × (more' ≡ more)
     by_head (inl d) =
-        let h = head_is a bs size gap more d e s in
-        let k = head_is a bs size' gap' more' d f t in
+        let h = head_is a bs size room more d e s in
+        let k = head_is a bs size' room' more' d f t in
         (k.size_is ∙ sym h.size_is, k.gap_is ∙ sym h.gap_is, same_rest 39 39 more' more (k.next_is ∙ sym h.next_is))
     by_head (inr q) =
-        let h = quote_is bs size gap more (ap (λ k. k ∷ bs) (sym q) ∙ e) s in
-        let k = quote_is bs size' gap' more' (ap (λ k. k ∷ bs) (sym q) ∙ f) t in
+        let h = quote_is bs size room more (ap (λ k. k ∷ bs) (sym q) ∙ e) s in
+        let k = quote_is bs size' room' more' (ap (λ k. k ∷ bs) (sym q) ∙ f) t in
         (k.0 ∙ sym h.0, k.1 ∙ sym h.1, k.2 ∙ sym h.2)
 
 no_more : (bs : List ℕ) → bs ≡ bs ++ []
@@ -67,9 +67,9 @@ same_based : (bs : List ℕ) (b c : Based) → IsBased bs b → IsBased bs c →
 same_based bs b c i j =
     let more = b.sign ++ b.letter ∷ (b.space ++ (b.digits ++ [])) in
     let whole : bs ≡ b.size ++ (b.gap ++ 39 ∷ more) = no_more bs ∙ ap (λ k. k ++ []) i.text ∙ based_behind b [] in
-    let head : OneHead bs b.size b.gap more = record { parts = whole; sized = i.sized; only = λ size gap more' e s. same_heads bs b.size b.gap more size gap more' whole i.sized e s } in
+    let head : OneHead bs b.size b.gap more = record { parts = whole; sized = i.sized; only = λ size room more' e s. same_heads bs b.size b.gap more size room more' whole i.sized e s } in
     let p = based_parts bs b.size b.gap more bs [] c head (no_more bs) j in
-    let own : Splits more b.sign b.letter b.space b.digits [] = record { parts = refl; signed = i.signed; spaced = i.spaced; digits = i.digits } in
+    let own : Splits more b.sign b.letter b.space b.digits [] = record { parts = refl; signed = i.signed; spaced = i.spaced; given = i.digits } in
     let same = same_parts more b.sign b.letter b.space b.digits [] c.sign c.letter c.space c.digits [] own p.splits in
     let digits : b.digits ≡ c.digits = no_more b.digits ∙ same.afters ∙ append-nil c.digits in
     λ k. record { size = sym p.sizes k; gap = sym p.gaps k; sign = same.signs k; letter = same.letters k; space = same.spaces k; digits = digits k }

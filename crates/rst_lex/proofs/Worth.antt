@@ -9,7 +9,8 @@ use Rattle.std.proofs.Math.Nat.{mod-add-mod, pow-zero, pow-suc, pow-le-pow_right
 use Rattle.std.proofs.Math.Pow.{mod-mod-pow}
 use Rattle.std.proofs.Math.Seq.{take-suc}
 use Rattle.std.proofs.lemmas.List.Sums.{sum_by_push}
-use Rattle.rst_lex.specs.Literals.{is_counted, digit_count, number, digit_value, decimal_number}
+use Rattle.rst_lex.specs.Literals.{is_counted, digit_count, number, digit_value, decimal_number, begins_masked, digit_bits, radix_of, mask_digit, missing_bits, mask_of}
+use Rattle.std.proofs.lemmas.Bool.{eqb-true}
 
 -- ---- one more digit
 
@@ -114,3 +115,65 @@ apart n m lt = same_from_bits (bit_and (bit_and n (bit_not w64 m)) m) 0 (λ i. b
         no_min a = omega arith
         below_or : (i : ℕ) → (64 ≤ i) ⊎ (i < 64)
         below_or i = grind arith
+
+counted_ne : (b : ℕ) → (b ≡ 95 → ⊥) → is_counted b ≡ true
+counted_ne b n = by_test (b == 95) refl
+  where
+    by_test : (t : Bool) → (b == 95) ≡ t → is_counted b ≡ true
+    by_test true e = absurd (n (eqb-true b 95 e))
+    by_test false e = counted_is b e
+
+skipped_eq : (b : ℕ) → b ≡ 95 → is_counted b ≡ false
+skipped_eq b e = ap is_counted e
+
+-- the steps of the loops, as their tests say
+pub digit_read : (radix : ℕ) (worth : ℕ → ℕ) (xs : List ℕ) (i m v d w : ℕ) → i < length xs → (get_or xs i 0 ≡ 95 → ⊥) → v ≡ number radix worth (take i xs) % m → d ≡ worth (get_or xs i 0) → w ≡ (v * radix % m + d) % m
+    → w ≡ number radix worth (take (i + 1) xs) % m
+digit_read radix worth xs i m v d w lt n e f g = g ∙ ap (λ k. (v * radix % m + k) % m) f ∙ read_digit radix worth xs i m v lt (counted_ne (get_or xs i 0) n) e
+
+pub digit_skipped : (radix : ℕ) (worth : ℕ → ℕ) (xs : List ℕ) (i m v w : ℕ) → i < length xs → get_or xs i 0 ≡ 95 → v ≡ number radix worth (take i xs) % m → w ≡ v → w ≡ number radix worth (take (i + 1) xs) % m
+digit_skipped radix worth xs i m v w lt n e g = g ∙ e ∙ ap (λ k. k % m) (sym (skip_digit radix worth xs i lt (skipped_eq (get_or xs i 0) n)))
+
+pub size_read : (xs : List ℕ) (i v d w : ℕ) → i < length xs → (get_or xs i 0 ≡ 95 → ⊥) → v ≡ min 65 (decimal_number (take i xs)) → d ≡ digit_value (get_or xs i 0) → w ≡ min (v * 10 + d) 65
+    → w ≡ min 65 (decimal_number (take (i + 1) xs))
+size_read xs i v d w lt n e f g = g ∙ ap (λ k. min (v * 10 + k) 65) f ∙ read_size xs i v lt (counted_ne (get_or xs i 0) n) e
+
+pub size_skipped : (xs : List ℕ) (i v w : ℕ) → i < length xs → get_or xs i 0 ≡ 95 → v ≡ min 65 (decimal_number (take i xs)) → w ≡ v → w ≡ min 65 (decimal_number (take (i + 1) xs))
+size_skipped xs i v w lt n e g = g ∙ e ∙ ap (λ k. min 65 k) (sym (skip_digit 10 digit_value xs i lt (skipped_eq (get_or xs i 0) n)))
+
+-- ---- masks and values
+
+less_itself : (m n : ℕ) → m ≤ n → 0 ≡ m - n
+less_itself m n le = omega arith
+
+pub missing_none : (letter : ℕ) (digits : List ℕ) (width : ℕ) → begins_masked digits ≡ true → width ≤ digit_count digits * digit_bits letter → 0 ≡ missing_bits letter digits width
+missing_none letter digits width b le = less_itself (2 ^ width) (2 ^ (digit_count digits * digit_bits letter)) (wider_power width (digit_count digits * digit_bits letter) le) ∙ sym (ap (λ t. cond t (2 ^ width - 2 ^ (digit_count digits * digit_bits letter)) 0) b)
+
+less_ones : (m n : ℕ) → 1 ≤ n → (m - 1) - (n - 1) ≡ m - n
+less_ones m n le = omega arith
+
+pub missing_some : (letter : ℕ) (digits : List ℕ) (width : ℕ) → begins_masked digits ≡ true → (2 ^ width - 1) - (2 ^ (digit_count digits * digit_bits letter) - 1) ≡ missing_bits letter digits width
+missing_some letter digits width b = less_ones (2 ^ width) (2 ^ (digit_count digits * digit_bits letter)) (pow_pos (digit_count digits * digit_bits letter)) ∙ sym (ap (λ t. cond t (2 ^ width - 2 ^ (digit_count digits * digit_bits letter)) 0) b)
+
+pub ones_grow : (m n : ℕ) → m ≤ n → 2 ^ m - 1 ≤ 2 ^ n - 1
+ones_grow m n le = omega (arith, wider_power m n le)
+
+pub mask_made : (letter : ℕ) (digits : List ℕ) (width r m x v : ℕ) → r ≡ radix_of letter → m ≡ number r (mask_digit r) digits % 2 ^ 64 → x ≡ missing_bits letter digits width → width ≤ 64 → v ≡ (m + x) % 2 ^ 64 % 2 ^ width
+    → v ≡ mask_of letter digits width
+mask_made letter digits width r m x v e f g le h =
+    h ∙ (λ i. ((f ∙ ap (λ k. number k (mask_digit k) digits % 2 ^ 64) e) i + g i) % 2 ^ 64 % 2 ^ width) ∙ cut_sum (number (radix_of letter) (mask_digit (radix_of letter)) digits) (missing_bits letter digits width) width le
+
+pub value_made : (letter : ℕ) (digits : List ℕ) (width r n v : ℕ) → r ≡ radix_of letter → n ≡ number r digit_value digits % 2 ^ 64 → width ≤ 64 → v ≡ n % 2 ^ width → v ≡ number (radix_of letter) digit_value digits % 2 ^ width
+value_made letter digits width r n v e f le g = g ∙ ap (λ k. k % 2 ^ width) (f ∙ ap (λ k. number k digit_value digits % 2 ^ 64) e) ∙ cut_again (number (radix_of letter) digit_value digits) width le
+
+pub value_below : (v n width k : ℕ) → v ≡ n % 2 ^ width → bit_and v k < 2 ^ width
+value_below v n width k e = omega (arith, e, below_power n width, and_le_l v k)
+
+pub mask_below : (letter : ℕ) (digits : List ℕ) (width m : ℕ) → m ≡ mask_of letter digits width → m < 2 ^ width
+mask_below letter digits width m e = omega (arith, e, below_power (number (radix_of letter) (mask_digit (radix_of letter)) digits + missing_bits letter digits width) width)
+
+pub within_word : (m width : ℕ) → width ≤ 64 → m < 2 ^ width → m < 2 ^ 64
+within_word m width le lt = omega (arith, wider_power width 64 le, lt)
+
+pub ones_cut : (v width : ℕ) → bit_and v (2 ^ width - 1) ≡ v % 2 ^ width
+ones_cut v width = and_mask v width

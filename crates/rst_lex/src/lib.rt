@@ -9,6 +9,8 @@ mod lines;
 mod piece;
 mod small;
 mod small_front;
+#[cfg(test)]
+mod rows;
 mod token;
 mod words;
 

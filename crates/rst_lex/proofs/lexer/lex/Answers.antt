@@ -1,4 +1,5 @@
-use Rattle.std.proofs.Common.{subst, sym, ◌+◌, arith}
+use Rattle.std.proofs.Common.{subst, sym, ◌+◌, arith, Err}
+use Rattle.rst_lex.specs.Lexing.{Reads}
 use Rattle.rst_lex.proofs.LexLoop.{Front, front_start, piece_says, gap_ends, token_ends, front_gap, front_token, front_done, front_fault, in_order, kinds_in}
 use Rattle.rst_lex.specs.declared.piece.Piece.TheVariants as pieces
 use Rattle.rst_lex.proofs.lexer.lex.Goals as goal
@@ -21,3 +22,8 @@ returns-clause-order c = in_order c.args.text.now c.loop-at.tokens.items (front_
 
 pub returns-clause-kinds : goal.returns-clause-kinds
 returns-clause-kinds c = kinds_in c.args.text.now c.loop-at.tokens.items (front_done c.args.text.now c.loop-at.at c.loop-at.tokens.items c.loop-at-test.false c.loop-at.invariant)
+
+pub returns-in-Fault-clause-fault : goal.returns-in-Fault-clause-fault
+returns-in-Fault-clause-fault c = λ some.
+    subst (λ f. Reads c.args.text.now (Err f)) (sym c.fault_at.ensures)
+    (front_fault c.args.text.now c.loop-at.at c.loop-at.tokens.items c.in-Fault.cause c.loop-at-test.true c.loop-at.invariant (piece_says c.args.text.now c.loop-at.at (pieces.Fault c.in-Fault.cause) c.loop-at-test.true c.in-Fault.ensures))
