@@ -157,12 +157,16 @@ pub line_gap : (bs : List ℕ) → GapOf (2 + prefix_len is_in_line bs) (47 ∷ 
 line_gap bs =
     let n = prefix_len is_in_line bs in
     let size = length-prefix_len is_in_line bs in
-    let len : length (47 ∷ 47 ∷ take n bs) ≡ 2 + n = omega arith in
-    (47 ∷ 47 ∷ take n bs, drop n bs, record {
-      parts = ap (λ t. 47 ∷ 47 ∷ t) (sym (take-append-drop n bs));
-      fits = line (refl, refl, run_fits is_in_line bs);
-      longest = λ front behind e g. omega (arith, len, line_len 47 bs front behind refl e (slash_gap 47 (47 ∷ bs) front behind refl e g));
-    }, len)
+    let len : length (47 ∷ 47 ∷ take n bs) ≡ 2 + n = omega arith in (
+      47 ∷ 47 ∷ take n bs,
+      drop n bs,
+      record {
+        parts = ap (λ t. 47 ∷ 47 ∷ t) (sym (take-append-drop n bs));
+        fits = line (refl, refl, run_fits is_in_line bs);
+        longest = λ front behind e g. omega (arith, len, line_len 47 bs front behind refl e (slash_gap 47 (47 ∷ bs) front behind refl e g));
+      },
+      len,
+    )
 
 block_len : (b : ℕ) (bs front behind : List ℕ) (n : ℕ) → b ≡ 42 → close_len 42 47 bs ≡ Some n → 47 ∷ b ∷ bs ≡ front ++ behind → IsLine front ⊎ IsBlock front → length front ≤ 2 + n
 block_len b bs [] behind n s c e g = omega arith
@@ -178,12 +182,17 @@ pub block_gap : (bs : List ℕ) (n : ℕ) → close_len 42 47 bs ≡ Some n → 
 block_gap bs n e =
     let c = ends_fits 42 47 bs n e in
     let size = length-take-le n bs c.1 in
-    let len : length (47 ∷ 42 ∷ take n bs) ≡ 2 + n = omega arith in
-    (47 ∷ 42 ∷ take n bs, drop n bs, record {
-      parts = ap (λ t. 47 ∷ 42 ∷ t) (sym (take-append-drop n bs));
-      fits = block (refl, refl, c.0);
-      longest = λ front behind p g. omega (arith, len, block_len 42 bs front behind n refl e p (slash_gap 47 (42 ∷ bs) front behind refl p g));
-    }, len, (refl, refl, c.0))
+    let len : length (47 ∷ 42 ∷ take n bs) ≡ 2 + n = omega arith in (
+      47 ∷ 42 ∷ take n bs,
+      drop n bs,
+      record {
+        parts = ap (λ t. 47 ∷ 42 ∷ t) (sym (take-append-drop n bs));
+        fits = block (refl, refl, c.0);
+        longest = λ front behind p g. omega (arith, len, block_len 42 bs front behind n refl e p (slash_gap 47 (42 ∷ bs) front behind refl p g));
+      },
+      len,
+      (refl, refl, c.0),
+    )
 
 pub no_block : (bs : List ℕ) → close_len 42 47 bs ≡ None → Nowhere IsBlock (47 ∷ 42 ∷ bs)
 no_block bs n [] behind e b = b
@@ -248,12 +257,17 @@ attribute_gap bs n o e =
     let c = ends_fits 42 41 bs n e in
     let size = length-take-le n bs c.1 in
     let next : closes_next (take n bs) ≡ false = sym (next_same (take n bs) (drop n bs) c.0) ∙ ap closes_next (take-append-drop n bs) ∙ o in
-    let len : length (40 ∷ 42 ∷ take n bs) ≡ 2 + n = omega arith in
-    (40 ∷ 42 ∷ take n bs, drop n bs, record {
-      parts = ap (λ t. 40 ∷ 42 ∷ t) (sym (take-append-drop n bs));
-      fits = attribute (refl, refl, next, c.0);
-      longest = λ front behind p g. omega (arith, len, attribute_len bs front behind n e p (bracket_gap 40 (42 ∷ bs) front behind refl p g));
-    }, len, (refl, refl, next, c.0))
+    let len : length (40 ∷ 42 ∷ take n bs) ≡ 2 + n = omega arith in (
+      40 ∷ 42 ∷ take n bs,
+      drop n bs,
+      record {
+        parts = ap (λ t. 40 ∷ 42 ∷ t) (sym (take-append-drop n bs));
+        fits = attribute (refl, refl, next, c.0);
+        longest = λ front behind p g. omega (arith, len, attribute_len bs front behind n e p (bracket_gap 40 (42 ∷ bs) front behind refl p g));
+      },
+      len,
+      (refl, refl, next, c.0),
+    )
 
 -- no attribute begins where no * follows, or where ) stands next
 pub bracket_alone : (bs : List ℕ) → ((c : ℕ) (cs : List ℕ) → bs ≡ c ∷ cs → c ≡ 42 → closes_next cs ≡ false → ⊥) → Nowhere IsGap (40 ∷ bs)
@@ -283,9 +297,13 @@ pub directive_gap : (bs : List ℕ) → GapOf (1 + prefix_len is_in_line bs) (96
 directive_gap bs =
     let n = prefix_len is_in_line bs in
     let size = length-prefix_len is_in_line bs in
-    let len : length (96 ∷ take n bs) ≡ 1 + n = omega arith in
-    (96 ∷ take n bs, drop n bs, record {
-      parts = ap (λ t. 96 ∷ t) (sym (take-append-drop n bs));
-      fits = directive (refl, run_fits is_in_line bs);
-      longest = λ front behind e g. omega (arith, len, directive_len 96 bs front behind refl e g);
-    }, len)
+    let len : length (96 ∷ take n bs) ≡ 1 + n = omega arith in (
+      96 ∷ take n bs,
+      drop n bs,
+      record {
+        parts = ap (λ t. 96 ∷ t) (sym (take-append-drop n bs));
+        fits = directive (refl, run_fits is_in_line bs);
+        longest = λ front behind e g. omega (arith, len, directive_len 96 bs front behind refl e g);
+      },
+      len,
+    )

@@ -121,10 +121,10 @@ block_case bs None e = inl (block (refl, refl) (no_block bs e))
 
 slash_case : (b : ℕ) (bs : List ℕ) (s t : Bool) → (b == 47) ≡ s → (b == 42) ≡ t
     → Says (cond s (fronts.Gap (2 + prefix_len is_in_line bs)) (cond t (comment_front (close_len 42 47 bs)) (fronts.Mark 1))) (47 ∷ b ∷ bs)
-slash_case b bs true t e f = rw (eqb-true b 47 e) (gap_piece (2 + prefix_len is_in_line bs) (47 ∷ 47 ∷ bs) (sound_slash (47 ∷ bs) (λ o w. no_star o.1)) (line_gap bs))
+slash_case b bs true t e f = rw (eqb-true b 47 e) (gap_piece (2 + prefix_len is_in_line bs) (47 ∷ 47 ∷ bs) (sound_slash (47 ∷ bs) (λ o w. no_star 47 refl o.1)) (line_gap bs))
   where
-    no_star : 47 ≡ 42 → ⊥
-    no_star h = let f : false ≡ true = ap (λ k. k == 42) h in cc
+    no_star : (c : ℕ) → c ≡ 47 → c ≡ 42 → ⊥
+    no_star c g h = omega arith
 slash_case b bs false true e f = rw (eqb-true b 42 f) (block_case bs (close_len 42 47 bs) refl)
 slash_case b bs false false e f = slash_mark (b ∷ bs) (λ c cs p q. none c cs p q)
   where
@@ -185,9 +185,11 @@ dollar_token bs (x ∷ front) behind e t = only x front (first x front behind bs
   where
     first : (x : ℕ) (front behind bs : List ℕ) → 36 ∷ bs ≡ x ∷ (front ++ behind) → x ≡ 36
     first x front behind bs e = cc
+
     number : (x : ℕ) → x ≡ 36 → (is_digit x ≡ true) ⊎ (x ≡ 39) → ⊥
     number x h (inl d) = let f = ap is_digit (sym h) ∙ d in cc
     number x h (inr q) = let f : false ≡ true = ap (λ k. k == 39) (sym h ∙ q) in cc
+
     only : (x : ℕ) (front : List ℕ) → x ≡ 36 → IsToken (x ∷ front) → IsSystem (x ∷ front)
     only x front h (identifier i) = let f = ap is_name_start (sym h) ∙ identifier_head x front i in absurd cc
     only x front h (system y) = y
@@ -219,12 +221,19 @@ system_case bs false e =
     let k = prefix_len is_name_byte bs in
     let size = length-prefix_len is_name_byte bs in
     let len : length (36 ∷ take k bs) ≡ 1 + k = omega arith in
-    let fits = make_system (take k bs) (run_fits is_name_byte bs) (λ z. some (sym size ∙ z)) in
-    (36 ∷ take k bs, drop k bs, dollar_sound bs, dollar_gap bs, record {
-      parts = ap (λ t. 36 ∷ t) (sym (take-append-drop k bs));
-      fits = system fits;
-      longest = λ front behind p t. omega (arith, len, system_len bs front behind p (dollar_token bs front behind p t));
-    }, fits, len)
+    let fits = make_system (take k bs) (run_fits is_name_byte bs) (λ z. some (sym size ∙ z)) in (
+      36 ∷ take k bs,
+      drop k bs,
+      dollar_sound bs,
+      dollar_gap bs,
+      record {
+        parts = ap (λ t. 36 ∷ t) (sym (take-append-drop k bs));
+        fits = system fits;
+        longest = λ front behind p t. omega (arith, len, system_len bs front behind p (dollar_token bs front behind p t));
+      },
+      fits,
+      len,
+    )
   where
     some : prefix_len is_name_byte bs ≡ 0 → ⊥
     some z = let f : (prefix_len is_name_byte bs == 0) ≡ true = ap (λ k. k == 0) z in let g = sym e ∙ f in cc
@@ -256,6 +265,7 @@ quote_token bs (x ∷ front) behind e t = only x front (first x front behind bs 
   where
     first : (x : ℕ) (front behind bs : List ℕ) → 39 ∷ bs ≡ x ∷ (front ++ behind) → x ≡ 39
     first x front behind bs e = cc
+
     only : (x : ℕ) (front : List ℕ) → x ≡ 39 → IsToken (x ∷ front) → IsBasedText (x ∷ front)
     only x front h (identifier i) = let f = ap is_name_start (sym h) ∙ identifier_head x front i in absurd cc
     only x front h (system y) = let f : false ≡ true = ap (λ k. k == 36) (sym h ∙ system_head x front y) in absurd cc
@@ -309,17 +319,17 @@ digit_tail a bs gap more (Some tail) d o e =
 quote_tail : (bs : List ℕ) (t : Option Tail) → tail_front bs ≡ t → Says (tail_based 0 0 t) (39 ∷ bs)
 quote_tail bs None e = inl (broken_number (39 ∷ bs) [] [] bs (quote_head bs) e)
 quote_tail bs (Some tail) e = record {
-      size = [];
-      gap = [];
-      more = bs;
-      head = quote_head bs;
-      says = tail_says bs tail e;
-      size_is = refl;
-      gap_is = refl;
-      no_gaps = no_gap 39 bs refl;
-      first = λ front behind p t. inr (quote_token bs front behind p t);
-      sound = λ p q. sound_number 39 bs refl p q;
-    }
+  size = [];
+  gap = [];
+  more = bs;
+  head = quote_head bs;
+  says = tail_says bs tail e;
+  size_is = refl;
+  gap_is = refl;
+  no_gaps = no_gap 39 bs refl;
+  first = λ front behind p t. inr (quote_token bs front behind p t);
+  sound = λ p q. sound_number 39 bs refl p q;
+}
 
 says_quote : (bs : List ℕ) → Says (based_front 0 0 bs) (39 ∷ bs)
 unfolding based_front
@@ -331,15 +341,19 @@ decimal_says : (a : ℕ) (bs : List ℕ) → is_digit a ≡ true → let k = pre
 decimal_says a bs d none =
     let k = prefix_len is_decimal_byte bs in
     let size = length-prefix_len is_decimal_byte bs in
-    let len : length (a ∷ take k bs) ≡ 1 + k = omega arith in
-    (a ∷ take k bs, drop k bs,
-    sound_number a bs (digit_number a d) (λ o w. none o.size o.gap o.more o.parts o.sized) (λ cs rest b g i. absurd (no_text cs rest g.parts (b, i))),
-    digit_no_gap a bs d,
-    record {
-      parts = ap (λ t. a ∷ t) (sym (take-append-drop k bs));
-      fits = decimal (d, run_fits is_decimal_byte bs);
-      longest = λ front behind p t. elim (digit_token a bs front behind d p t) [ | inl l ↦ omega (arith, len, l) | inr b ↦ absurd (no_text front behind p b) ];
-    }, (d, run_fits is_decimal_byte bs), len)
+    let len : length (a ∷ take k bs) ≡ 1 + k = omega arith in (
+      a ∷ take k bs,
+      drop k bs,
+      sound_number a bs (digit_number a d) (λ o w. none o.size o.gap o.more o.parts o.sized) (λ cs rest b g i. absurd (no_text cs rest g.parts (b, i))),
+      digit_no_gap a bs d,
+      record {
+        parts = ap (λ t. a ∷ t) (sym (take-append-drop k bs));
+        fits = decimal (d, run_fits is_decimal_byte bs);
+        longest = λ front behind p t. elim (digit_token a bs front behind d p t) [ inl l ↦ omega (arith, len, l) | inr b ↦ absurd (no_text front behind p b) ];
+      },
+      (d, run_fits is_decimal_byte bs),
+      len,
+    )
   where
     no_text : (front behind : List ℕ) → a ∷ bs ≡ front ++ behind → IsBasedText front → ⊥
     no_text front behind p b = none b.0.size b.0.gap (b.0.sign ++ b.0.letter ∷ (b.0.space ++ (b.0.digits ++ behind))) (p ∙ ap (λ t. t ++ behind) b.1.text ∙ based_behind b.0 behind) b.1.sized
@@ -352,6 +366,7 @@ number_case a bs (b ∷ more) d e = by_test (b == 39) refl
   where
     k : ℕ
     k = prefix_len is_decimal_byte bs
+
     by_test : (t : Bool) → (b == 39) ≡ t → Says (cond t (based_front (1 + prefix_len is_decimal_byte bs) (prefix_len is_space (drop (prefix_len is_decimal_byte bs) bs)) more) (fronts.Decimal (1 + prefix_len is_decimal_byte bs))) (a ∷ bs)
     by_test true f =
         let behind = drop (prefix_len is_decimal_byte bs) bs in
@@ -383,12 +398,14 @@ other_token a bs (x ∷ front) behind o e t = only x front (first x front behind
   where
     first : (x : ℕ) (front behind : List ℕ) → a ∷ bs ≡ x ∷ (front ++ behind) → a ≡ x
     first x front behind e = cc
+
     number : (x : ℕ) → a ≡ x → (is_digit x ≡ true) ⊎ (x ≡ 39) → ⊥
     number x h d = not_number a x h o.no_fault d
       where
         not_number : (a x : ℕ) → a ≡ x → begins_fault a ≡ false → (is_digit x ≡ true) ⊎ (x ≡ 39) → ⊥
         not_number a x h f (inl d) = let g = ap is_digit h ∙ d in grind (arith, nat_tests)
         not_number a x h f (inr q) = let g = h ∙ q in grind (arith, nat_tests)
+
     only : (x : ℕ) (front : List ℕ) → a ≡ x → IsToken (x ∷ front) → IsMark (x ∷ front)
     only x front h (identifier i) = let f = sym o.no_name ∙ ap is_name_start h ∙ identifier_head x front i in absurd cc
     only x front h (system y) = let f = sym o.no_dollar ∙ ap (λ k. k == 36) (h ∙ system_head x front y) in absurd cc
@@ -406,6 +423,7 @@ mark_case a bs false o e = mark_says a bs (is_one (is_mark a) refl) (sound_other
   where
     no_len : is_mark a ≡ false → mark_len (a ∷ bs) ≡ 0
     no_len f = empty_len a bs f
+
     is_one : (t : Bool) → is_mark a ≡ t → t ≡ true
     is_one true m = refl
     is_one false m = let f : (mark_len (a ∷ bs) == 0) ≡ true = ap (λ k. k == 0) (no_len m) in let g = sym e ∙ f in cc

@@ -88,7 +88,7 @@ front_token text at len kind ts lt f s =
     let rest = rest_is text at len s.0 s.1 s.4.parts s.6 in
     record {
       goes = λ answer l. subst (Reads text) (with_one ts kind at (at + len) answer) (f.goes (with_token kind at (at + len) answer)
-        (token kind s.0 s.1 answer s.2 s.3 s.4 s.5 (subst (λ n. Lexes (at + n) s.1 answer) (sym s.6) (subst (λ r. Lexes (at + len) r answer) (sym rest) l)) (ap (λ n. with_token kind at (at + n) answer) (sym s.6))));
+          (token kind s.0 s.1 answer s.2 s.3 s.4 s.5 (subst (λ n. Lexes (at + n) s.1 answer) (sym s.6) (subst (λ r. Lexes (at + len) r answer) (sym rest) l)) (ap (λ n. with_token kind at (at + n) answer) (sym s.6))));
       within = (token_ends text at len kind lt s).1;
     }
 

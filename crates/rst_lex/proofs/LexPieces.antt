@@ -86,10 +86,10 @@ size_within text size gap tail s = omega (arith, length_based (found s))
 
 begins_token : (text : List ℕ) (size gap : ℕ) (tail : Tail) (s : BasedSays text size gap tail) → Begins IsToken text (based_text (found s)) s.says.behind
 begins_token text size gap tail s = record {
-    parts = found_parts text size gap tail s;
-    fits = based (found s) (found_based text size gap tail s);
-    longest = λ front behind p t. elim (s.first front behind p t) [ | inl l ↦ omega (arith, l, size_within text size gap tail s) | inr b ↦ based_len text size gap tail s front behind p b ];
-  }
+  parts = found_parts text size gap tail s;
+  fits = based (found s) (found_based text size gap tail s);
+  longest = λ front behind p t. elim (s.first front behind p t) [ inl l ↦ omega (arith, l, size_within text size gap tail s) | inr b ↦ based_len text size gap tail s front behind p b ];
+}
 
 -- any longest based literal at the front has the size and the digits that were found
 found_same : (text : List ℕ) (size gap : ℕ) (tail : Tail) (s : BasedSays text size gap tail) (cs rest : List ℕ) (b : Based) → Begins IsBasedText text cs rest → IsBased cs b → (b.size ≡ s.size) × (b.digits ≡ s.says.digits)
@@ -120,8 +120,10 @@ digits_taken text size gap tail s =
   where
     length_before : (b : Based) → length (before b) ≡ length b.size + length b.gap + length b.sign + length b.space + 2
     length_before b = simp (length-append) (omega arith)
+
     before_is : (b : Based) (more : List ℕ) → before b ++ more ≡ b.size ++ (b.gap ++ 39 ∷ (b.sign ++ b.letter ∷ (b.space ++ more)))
     before_is b more = simp append_assoc
+
     sizes : length s.size + length s.gap + length s.says.sign + length s.says.space + 2 ≡ size + gap + tail.sign + tail.space + 2
     sizes = omega (arith, s.size_is, s.gap_is, s.says.sign_len, s.says.space_len)
 
@@ -144,12 +146,17 @@ answer_found text size gap tail s r a =
 
 pub literal_piece : (text : List ℕ) (size gap : ℕ) (tail : Tail) (s : BasedSays text size gap tail) (l : Literal)
     → IsBasedAnswer (Ok l) s.size (is_signed s.says.sign) tail.letter s.says.digits → IsPiece (pieces.Token (kinds.Number l) (size + gap + tail.sign + tail.space + tail.digits + 2)) text
-literal_piece text size gap tail s l a =
-    (based_text (found s), s.says.behind,
-    s.sound (λ o w. w (based_text (found s)) s.says.behind (found_parts text size gap tail s) (found s, found_based text size gap tail s))
-    (λ cs rest b g i. let same = found_same text size gap tail s cs rest b g i in
+literal_piece text size gap tail s l a = (
+  based_text (found s),
+  s.says.behind,
+  s.sound (λ o w. w (based_text (found s)) s.says.behind (found_parts text size gap tail s) (found s, found_based text size gap tail s))
+      (λ cs rest b g i. let same = found_same text size gap tail s cs rest b g i in
       (λ n. a.0 (subst (λ d. IsNone s.size d) same.1 (subst (λ z. IsNone z b.digits) same.0 n)), λ w. a.1 (subst (λ z. 64 < width_of z) same.0 w))),
-    s.no_gaps, begins_token text size gap tail s, inr (found s, found_based text size gap tail s, a.2), found_len text size gap tail s)
+  s.no_gaps,
+  begins_token text size gap tail s,
+  inr (found s, found_based text size gap tail s, a.2),
+  found_len text size gap tail s,
+)
 
 pub fault_piece : (text : List ℕ) (size gap : ℕ) (tail : Tail) (s : BasedSays text size gap tail) (cause : Cause)
     → IsBasedAnswer (Err cause) s.size (is_signed s.says.sign) tail.letter s.says.digits → IsPiece (pieces.Fault cause) text

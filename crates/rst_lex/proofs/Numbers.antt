@@ -53,13 +53,16 @@ letter_no_sign letter b d = by_test ((letter == 115) || (letter == 83)) refl
   where
     first : (letter == 115) ≡ true → is_digit_behind letter b ≡ false
     first e = ap (λ k. is_digit_behind k b) (eqb-true letter 115 e)
+
     second : (letter == 83) ≡ true → is_digit_behind letter b ≡ false
     second e = ap (λ k. is_digit_behind k b) (eqb-true letter 83 e)
+
     or_split : (s u : Bool) → (s || u) ≡ true → (s ≡ true) ⊎ (u ≡ true)
     or_split true u e = inl refl
     or_split false u e = inr e
+
     by_test : (t : Bool) → ((letter == 115) || (letter == 83)) ≡ t → t ≡ false
-    by_test true e = elim (or_split (letter == 115) (letter == 83) e) [ | inl h ↦ (let f = sym (first h) ∙ d in cc) | inr h ↦ (let f = sym (second h) ∙ d in cc) ]
+    by_test true e = elim (or_split (letter == 115) (letter == 83) e) [ inl h ↦ (let f = sym (first h) ∙ d in cc) | inr h ↦ (let f = sym (second h) ∙ d in cc) ]
     by_test false e = refl
 
 space_no_decimal : (b : ℕ) → is_space b ≡ true → is_decimal_byte b ≡ false
@@ -141,8 +144,10 @@ digits_here letter (b ∷ bs) e = by_test (is_digit_behind letter b) (b == 95) r
   where
     p : ℕ → Bool
     p k = is_digit_behind letter k
+
     not_it : (b == 95) ≡ false → b ≡ 95 → ⊥
     not_it f h = let g : (b == 95) ≡ true = ap (λ k. k == 95) h in let k = sym f ∙ g in cc
+
     by_test : (t u : Bool) → is_digit_behind letter b ≡ t → (b == 95) ≡ u → (t && not u) ≡ true → EachByte (is_digit_behind letter) (take (prefix_len (is_digit_behind letter) bs) bs)
         → IsDigitsBehind letter (take (cond t (1 + prefix_len (is_digit_behind letter) bs) 0) (b ∷ bs))
     by_test true false et eu h all = let n : suc (prefix_len (is_digit_behind letter) bs) ≡ 1 + prefix_len (is_digit_behind letter) bs = omega arith in
@@ -164,6 +169,7 @@ letter_says sign letter bs tail e = by_test (begins_digits letter (drop (prefix_
   where
     made : Tail
     made = record { sign = sign; letter = letter; space = prefix_len is_space bs; digits = prefix_len (is_digit_behind letter) (drop (prefix_len is_space bs) bs) }
+
     by_test : (t : Bool) → begins_digits letter (drop (prefix_len is_space bs) bs) ≡ t
         → cond t (Some (record { sign = sign; letter = letter; space = prefix_len is_space bs; digits = prefix_len (is_digit_behind letter) (drop (prefix_len is_space bs) bs) })) None ≡ Some tail → LetterSays sign letter bs tail
     by_test true b e = record { is = same_some _ tail e; begins = b }
@@ -199,9 +205,11 @@ tail_says (b ∷ bs) tail e = by_test ((b == 115) || (b == 83)) refl e
   where
     none : letter_front 1 [] ≡ None
     none = refl
+
     signed : (bs : List ℕ) → ((b == 115) || (b == 83)) ≡ true → letter_front 1 bs ≡ Some tail → TailSays (b ∷ bs) tail
     signed [] s e = let f = sym none ∙ e in absurd cc
     signed (letter ∷ rest) s e = tail_made (b ∷ letter ∷ rest) (b ∷ []) letter rest tail refl s (letter_says 1 letter rest tail e)
+
     by_test : (t : Bool) → ((b == 115) || (b == 83)) ≡ t → cond t (letter_front 1 bs) (letter_front 0 (b ∷ bs)) ≡ Some tail → TailSays (b ∷ bs) tail
     by_test true s e = signed bs s e
     by_test false s e = tail_made (b ∷ bs) [] b bs tail refl tt (letter_says 0 b bs tail e)
@@ -279,6 +287,7 @@ quote_is bs (x ∷ size) gap more e s = absurd (no_digit x (first x bs (size ++ 
   where
     first : (x : ℕ) (bs more : List ℕ) → 39 ∷ bs ≡ x ∷ more → x ≡ 39
     first x bs more e = cc
+
     no_digit : (x : ℕ) → x ≡ 39 → is_digit x ≡ true → ⊥
     no_digit x h d = let f = ap is_digit (sym h) ∙ d in cc
 

@@ -32,6 +32,7 @@ number_more radix worth (x ∷ xs) b c = by_test (is_counted x) (number_more rad
   where
     power : radix ^ digit_count (xs ++ b ∷ []) ≡ radix ^ digit_count xs * radix
     power = ap (λ k. radix ^ k) (count_more xs b ∙ ap (λ t. digit_count xs + cond t 1 0) c) ∙ power_more radix (digit_count xs)
+
     by_test : (t : Bool) → number radix worth (xs ++ b ∷ []) ≡ number radix worth xs * radix + worth b
         → cond t (worth x * radix ^ digit_count (xs ++ b ∷ []) + number radix worth (xs ++ b ∷ [])) (number radix worth (xs ++ b ∷ []))
         ≡ cond t (worth x * radix ^ digit_count xs + number radix worth xs) (number radix worth xs) * radix + worth b
@@ -48,6 +49,7 @@ number_same radix worth (x ∷ xs) b c = by_test (is_counted x) (number_same rad
       where
         no_more : (n : ℕ) → n + 0 ≡ n
         no_more n = omega arith
+
     by_test : (t : Bool) → number radix worth (xs ++ b ∷ []) ≡ number radix worth xs
         → cond t (worth x * radix ^ digit_count (xs ++ b ∷ []) + number radix worth (xs ++ b ∷ [])) (number radix worth (xs ++ b ∷ []))
         ≡ cond t (worth x * radix ^ digit_count xs + number radix worth xs) (number radix worth xs)
@@ -106,13 +108,16 @@ apart n m lt = same_from_bits (bit_and (bit_and n (bit_not w64 m)) m) 0 (λ i. b
   where
     least : (a b c : ℕ) → b ≡ 1 - c → c < 2 → min (min a b) c ≡ 0
     least a b c e lt = omega arith
+
     none : (i : ℕ) → min (bit_at (bit_and n (bit_not w64 m)) i) (bit_at m i) ≡ 0
     none i = elim (below_or i) [
       | inl le ↦ (let e = bit_at_above m 64 i lt le in ap (λ k. min (bit_at (bit_and n (bit_not w64 m)) i) k) e ∙ no_min (bit_at (bit_and n (bit_not w64 m)) i))
-      | inr less ↦ ap (λ k. min k (bit_at m i)) (bit_at_and n (bit_not w64 m) i) ∙ least (bit_at n i) (bit_at (bit_not w64 m) i) (bit_at m i) (bit_at_not w64 m i lt less) (bit_at-lt m i) ]
+      | inr less ↦ ap (λ k. min k (bit_at m i)) (bit_at_and n (bit_not w64 m) i) ∙ least (bit_at n i) (bit_at (bit_not w64 m) i) (bit_at m i) (bit_at_not w64 m i lt less) (bit_at-lt m i)
+    ]
       where
         no_min : (a : ℕ) → min a 0 ≡ 0
         no_min a = omega arith
+
         below_or : (i : ℕ) → (64 ≤ i) ⊎ (i < 64)
         below_or i = grind arith
 

@@ -154,7 +154,11 @@ fn is_octal_digit(b: u8) -> bool
 fn is_hex_digit(b: u8) -> bool
     ensures { result ≡ is_hex_digit b }
 {
-    is_digit(b) || (b'A' <= b && b <= b'F') || (b'a' <= b && b <= b'f') || b == b'_' || is_open_digit(b)
+    is_digit(b)
+        || (b'A' <= b && b <= b'F')
+        || (b'a' <= b && b <= b'f')
+        || b == b'_'
+        || is_open_digit(b)
 }
 
 // Whether a byte may be a digit behind a base letter.

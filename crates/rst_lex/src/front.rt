@@ -6,7 +6,9 @@ ghost use Rattle.rst_lex.specs.Gaps.{is_in_line, closes_next, is_skipped_directi
 ghost use Rattle.rst_lex.specs.Numbers.{is_digit_behind};
 ghost use Rattle.rst_lex.specs.Fronts.{closes, close_len, slash_front, bracket_front, directive_front, system_front, begins_digits, letter_front, tail_front, based_front, number_front, mark_front, text_front};
 
-use crate::bytes::{is_decimal_byte, is_digit, is_digit_behind, is_name_start, is_space, mark_len, name_len};
+use crate::bytes::{
+    is_decimal_byte, is_digit, is_digit_behind, is_name_start, is_space, mark_len, name_len,
+};
 
 /// Why no token can be read.
 #[derive(Clone, Copy, PartialEq, Eq, Debug)]
@@ -63,7 +65,9 @@ fn digits_len(letter: u8, text: &[u8]) -> usize
     ensures value { result ≡ prefix_len (is_digit_behind letter) text.now }
     ensures within { result ≤ length text.now }
 {
-    text.iter().take_while(|b| is_digit_behind(letter, **b)).count()
+    text.iter()
+        .take_while(|b| is_digit_behind(letter, **b))
+        .count()
 }
 
 fn closes(x: u8, y: u8, a: u8, b: u8) -> bool
@@ -116,7 +120,9 @@ fn bracket_front(rest: &[u8]) -> Front
     ensures { result ≡ bracket_front rest.now }
 {
     match rest {
-        [b'*', attribute @ ..] if !closes_next(attribute) => match close_len(b'*', b')', attribute) {
+        [b'*', attribute @ ..] if !closes_next(attribute) => match close_len(
+            b'*', b')', attribute,
+        ) {
             Some(n) => Front::Gap(2 + n),
             None => Front::Fault(Cause::OpenComment),
         },

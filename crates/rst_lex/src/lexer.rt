@@ -1,10 +1,9 @@
 //! The tokens of a whole text.
-ghost use Rattle.std.specs.Prelude.{◌≡◌, ◌≢◌, ◌≤◌, ℕ, List, length, IfOk, IfErr, Ok, Err, All};
+ghost use Rattle.std.specs.Prelude.{◌≡◌, ◌≢◌, ◌≤◌, length, IfOk, IfErr, Ok, Err, All};
 ghost use Rattle.rst_lex.specs.declared.lexer.LexFault.TheVariants.{NoMemory};
-ghost use Rattle.rst_lex.specs.declared.token.Token.{Token};
 ghost use Rattle.rst_lex.specs.Tokens.{token_text};
 ghost use Rattle.rst_lex.specs.Small.{InOrder};
-ghost use Rattle.rst_lex.specs.Lexing.{Answer, Reads, fault_at, IsTokenOf};
+ghost use Rattle.rst_lex.specs.Lexing.{Reads, fault_at, IsTokenOf};
 
 use crate::front::Cause;
 use crate::piece::{Piece, text_piece};
@@ -86,10 +85,4 @@ pub fn lex(alloc: Global, text: &[u8]) -> Result<Vec<Token>, LexFault>
         }
     }
     Ok(tokens)
-}
-
-/// A text is read in one way, so `lex` answers that one unless memory runs out.
-pub fn one_reading()
-    ensures { (text : List ℕ) (p : Answer) (q : Answer) → Reads text p → Reads text q → p ≡ q }
-{
 }

@@ -3,18 +3,20 @@
 
 mod bytes;
 mod front;
+mod laws;
 mod lexer;
-mod literal;
 mod lines;
+mod literal;
 mod piece;
-mod small;
-mod small_front;
 #[cfg(test)]
 mod rows;
+mod small;
+mod small_front;
 mod token;
 mod words;
 
-pub use lexer::{LexFault, lex, one_reading};
+pub use laws::one_reading;
+pub use lexer::{LexFault, lex};
 pub use lines::line_of;
 pub use small::lex_small;
 pub use token::{Literal, Token, TokenKind};

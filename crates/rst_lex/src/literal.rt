@@ -100,7 +100,9 @@ fn mask_modulo(radix: u64, digits: &[u8]) -> u64
     let mut value: u64 = 0;
     for b in digits {
         if *b != b'_' {
-            value = value.wrapping_mul(radix).wrapping_add(mask_digit(radix, *b));
+            value = value
+                .wrapping_mul(radix)
+                .wrapping_add(mask_digit(radix, *b));
         }
     }
     value
@@ -126,7 +128,11 @@ fn ones(count: usize) -> u64
     requires { count ≤ 64 }
     ensures { result ≡ 2 ^ count - 1 }
 {
-    if count == 64 { u64::MAX } else { (1 << count) - 1 }
+    if count == 64 {
+        u64::MAX
+    } else {
+        (1 << count) - 1
+    }
 }
 
 fn cut(value: u64, width: u8) -> u64
@@ -157,7 +163,10 @@ fn mask_of(letter: u8, digits: &[u8], width: u8) -> u64
     ensures { result ≡ mask_of letter digits.now width }
 {
     let mask = mask_modulo(radix_of(letter), digits);
-    cut(mask.wrapping_add(missing_bits(letter, digits, width)), width)
+    cut(
+        mask.wrapping_add(missing_bits(letter, digits, width)),
+        width,
+    )
 }
 
 fn literal(width: u8, signed: bool, letter: u8, digits: &[u8]) -> Literal

@@ -20,7 +20,11 @@ fn word_kind(text: &[u8], len: usize) -> TokenKind
     requires { len ≤ length text.now }
     ensures { result ≡ (if is_keyword (take len text.now) then TokenKind.Keyword else TokenKind.Name) }
 {
-    if is_keyword(&text[..len]) { TokenKind::Keyword } else { TokenKind::Name }
+    if is_keyword(&text[..len]) {
+        TokenKind::Keyword
+    } else {
+        TokenKind::Name
+    }
 }
 
 fn plain_front(text: &[u8], len: usize) -> Literal

@@ -53,7 +53,10 @@ fn faults(rt: HostRuntime) {
         ("`timescalex", LexFault::Directive(0)),
     ];
     for (text, fault) in rows {
-        assert!(rt; lex(rt.alloc(), text.as_bytes()).err() == Some(fault), "{text}");
+        assert!(rt;
+            lex(rt.alloc(), text.as_bytes()).err() == Some(fault),
+            "{text}"
+        );
     }
 }
 

@@ -16,9 +16,9 @@ invariant_of-result c =
 
 pub returns : goal.returns
 returns c = record {
-    has_width = refl;
-    has_sign = refl;
-    has_mask = c.mask_of-mask.ensures;
-    has_value = ap (λ k. bit_and k (bit_not w64 c.mask_of-mask.result))
+  has_width = refl;
+  has_sign = refl;
+  has_mask = c.mask_of-mask.ensures;
+  has_value = ap (λ k. bit_and k (bit_not w64 c.mask_of-mask.result))
       (value_made c.args.letter c.args.digits.now c.args.width c.radix_of.result c.number_modulo.result c.cut.result c.radix_of.ensures.value c.number_modulo.ensures c.requires.wide c.cut.ensures);
-  }
+}
