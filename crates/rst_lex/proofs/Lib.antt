@@ -1,3 +1,12 @@
 mod Shapes
 mod SmallPieces
 mod SmallLoop
+mod Close
+mod GapFronts
+mod Sounds
+mod Numbers
+mod LexFronts
+mod LexPieces
+mod Worth
+mod LexLoop
+mod OneReading

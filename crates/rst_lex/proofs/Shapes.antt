@@ -1,5 +1,5 @@
 -- What tokens begin with, and how far they reach.
-use Rattle.std.proofs.Common.{◌≡◌, ℕ, suc, ◌+◌, ◌<◌, ◌≤◌, Bool, true, false, cond, List, [], ◌∷◌, ◌++◌, length, take, drop, inl, inr, ◌⊎◌, refl, sym, ap, subst, ◌∙◌, arith, take-append-drop}
+use Rattle.std.proofs.Common.{zero, ◌≡◌, ℕ, suc, ◌+◌, ◌<◌, ◌≤◌, Bool, true, false, cond, List, [], ◌∷◌, ◌++◌, length, take, drop, inl, inr, ◌⊎◌, refl, sym, ap, subst, ◌∙◌, arith, take-append-drop}
 use Rattle.std.specs.List.{prefix_len, list_all}
 use Rattle.std.proofs.lemmas.List.Folds.{length-prefix_len}
 use Rattle.std.proofs.lemmas.List.{length-take-le}
@@ -71,7 +71,7 @@ mark_head a (b ∷ c ∷ []) m = three_head a b c m
 mark_head a (b ∷ c ∷ d ∷ bs) m = absurd m
 
 -- a based literal begins with a digit or '
-parts_head : (a : ℕ) (bs size gap more : List ℕ) → a ∷ bs ≡ size ++ (gap ++ 39 ∷ more) → IsSize size gap → (is_digit a ≡ true) ⊎ (a ≡ 39)
+pub parts_head : (a : ℕ) (bs size gap more : List ℕ) → a ∷ bs ≡ size ++ (gap ++ 39 ∷ more) → IsSize size gap → (is_digit a ≡ true) ⊎ (a ≡ 39)
 parts_head a bs [] gap more e s =
     let whole : a ∷ bs ≡ 39 ∷ more = e ∙ ap (λ g. g ++ 39 ∷ more) s in
     inr cc
@@ -118,7 +118,7 @@ token_no_space a bs (decimal d) s = space_no_digit a s d.0
 token_no_space a bs (based b i) s = elim (based_head a bs b i) [ inl d ↦ space_no_digit a s d | inr q ↦ (let f = ap is_space (sym q) ∙ s in cc) ]
 token_no_space a bs (mark m) s = space_no_mark a s (mark_head a bs m)
 
-no_based : (b : Based) → IsBased [] b → ⊥
+pub no_based : (b : Based) → IsBased [] b → ⊥
 no_based b i = empty b.size b.gap _ i.text i.sized
   where
     empty : (size gap more : List ℕ) → [] ≡ size ++ (gap ++ 39 ∷ more) → IsSize size gap → ⊥
@@ -214,7 +214,7 @@ mark_len-le (x ∷ y ∷ z ∷ text) = omega (arith, len3 (is_mark_of_three x y 
 -- ---- longest
 
 -- two fronts of one length are one
-same_front : (bs cs rest more : List ℕ) → bs ++ rest ≡ cs ++ more → length bs ≡ length cs → (bs ≡ cs) × (rest ≡ more)
+pub same_front : (bs cs rest more : List ℕ) → bs ++ rest ≡ cs ++ more → length bs ≡ length cs → (bs ≡ cs) × (rest ≡ more)
 same_front [] [] rest more e l = (refl, e)
 same_front [] (c ∷ cs) rest more e l = absurd (omega arith)
 same_front (b ∷ bs) [] rest more e l = absurd (omega arith)
@@ -285,3 +285,15 @@ begins_mark a bs m =
       fits,
       len,
     )
+
+-- no mark begins with a byte that is none
+pub empty_len : (a : ℕ) (bs : List ℕ) → is_mark a ≡ false → mark_len (a ∷ bs) ≡ 0
+empty_len a bs m = by_len (mark_len (a ∷ bs)) refl
+  where
+    by_len : (n : ℕ) → mark_len (a ∷ bs) ≡ n → n ≡ 0
+    by_len zero e = refl
+    by_len (suc n) e =
+        let some : 0 < mark_len (a ∷ bs) = omega arith in
+        let fits : IsMark (a ∷ take n bs) = subst (λ k. IsMark (take k (a ∷ bs))) e (mark_fits (a ∷ bs) some) in
+        let f = sym m ∙ mark_head a (take n bs) fits in
+        absurd cc

@@ -60,7 +60,7 @@ name_no_keyword bs n = second (is_identifier bs) (is_keyword bs) n
     second true false e = refl
     second false t e = absurd cc
 
-make_name : (bs : List ℕ) → IsIdentifier bs → is_keyword bs ≡ false → IsName bs
+pub make_name : (bs : List ℕ) → IsIdentifier bs → is_keyword bs ≡ false → IsName bs
 make_name bs i k = rw (i, k) refl
 
 -- ---- other texts

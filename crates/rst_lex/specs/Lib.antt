@@ -3,6 +3,10 @@ pub mod Lines
 pub mod Words
 pub mod Marks
 pub mod Numbers
+pub mod Gaps
+pub mod Literals
+pub mod Fronts
 pub mod Tokens
 pub mod Small
+pub mod Lexing
 pub mod SmallFronts

@@ -1,7 +1,8 @@
 // Classes of bytes, and how far they reach.
 ghost use Rattle.std.specs.Prelude.{◌≡◌, ◌≤◌, length};
 ghost use Rattle.std.specs.List.{prefix_len};
-ghost use Rattle.rst_lex.specs.Bytes.{is_blank, is_letter, is_digit, is_name_start, is_name_byte, is_binary_digit};
+ghost use Rattle.rst_lex.specs.Bytes.{is_blank, is_letter, is_digit, is_name_start, is_name_byte, is_binary_digit, is_space, is_decimal_byte, is_open_digit};
+ghost use Rattle.rst_lex.specs.Numbers.{is_octal_digit, is_hex_digit, is_digit_behind};
 ghost use Rattle.rst_lex.specs.Marks.{is_mark, is_mark_of_two, is_mark_of_three, mark_len};
 
 pub(crate) fn is_blank(b: u8) -> bool
@@ -124,4 +125,51 @@ pub(crate) fn name_len(text: &[u8]) -> usize
     ensures within { result ≤ length text.now }
 {
     text.iter().take_while(|b| is_name_byte(**b)).count()
+}
+
+pub(crate) fn is_space(b: u8) -> bool
+    ensures { result ≡ is_space b }
+{
+    is_blank(b) || b == b'\r' || b == 12
+}
+
+pub(crate) fn is_decimal_byte(b: u8) -> bool
+    ensures { result ≡ is_decimal_byte b }
+{
+    is_digit(b) || b == b'_'
+}
+
+fn is_open_digit(b: u8) -> bool
+    ensures { result ≡ is_open_digit b }
+{
+    b == b'x' || b == b'X' || b == b'z' || b == b'Z' || b == b'?'
+}
+
+fn is_octal_digit(b: u8) -> bool
+    ensures { result ≡ is_octal_digit b }
+{
+    (b'0' <= b && b <= b'7') || b == b'_' || is_open_digit(b)
+}
+
+fn is_hex_digit(b: u8) -> bool
+    ensures { result ≡ is_hex_digit b }
+{
+    is_digit(b)
+        || (b'A' <= b && b <= b'F')
+        || (b'a' <= b && b <= b'f')
+        || b == b'_'
+        || is_open_digit(b)
+}
+
+// Whether a byte may be a digit behind a base letter.
+pub(crate) fn is_digit_behind(letter: u8, b: u8) -> bool
+    ensures { result ≡ is_digit_behind letter b }
+{
+    match letter {
+        b'b' | b'B' => is_binary_digit(b),
+        b'o' | b'O' => is_octal_digit(b),
+        b'd' | b'D' => is_decimal_byte(b),
+        b'h' | b'H' => is_hex_digit(b),
+        _ => false,
+    }
 }

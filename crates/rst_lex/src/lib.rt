@@ -2,14 +2,21 @@
 #![tactic(auto)]
 
 mod bytes;
+mod front;
 mod laws;
+mod lexer;
 mod lines;
+mod literal;
+mod piece;
+#[cfg(test)]
+mod rows;
 mod small;
 mod small_front;
 mod token;
 mod words;
 
-pub use laws::one_small_list;
+pub use laws::{one_reading, one_small_list};
+pub use lexer::{LexFault, lex};
 pub use lines::line_of;
 pub use small::lex_small;
 pub use token::{Literal, Token, TokenKind};
