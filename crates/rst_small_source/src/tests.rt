@@ -19,10 +19,12 @@ fn read(alloc: Global, text: &str) -> Result<Option<Design>, NoMemory> {
 fn sources_of_the_form(rt: HostRuntime) -> Result<(), Fail> {
     let alloc = rt.alloc();
     let design = read(alloc, TOGGLE)?.ok_or("no design")?;
-    assert_eq!(rt; design.inputs().len(), 1);
-    assert_eq!(rt; design.inputs()[0].name.as_slice(), b"rst".as_slice());
-    assert_eq!(rt; design.registers().len(), 1);
-    assert_eq!(rt; design.registers()[0].name.as_slice(), b"q".as_slice());
+    let inputs = design.inputs();
+    assert_eq!(rt; inputs.len(), 1);
+    assert_eq!(rt; inputs[0].name.as_slice(), b"rst".as_slice());
+    let registers = design.registers();
+    assert_eq!(rt; registers.len(), 1);
+    assert_eq!(rt; registers[0].name.as_slice(), b"q".as_slice());
     let others = [
         "module t(input clk); endmodule",
         "module t(input clk, output reg a, output reg b); always @(posedge clk) b <= a; always @(posedge clk) a <= 1'b1; endmodule",
