@@ -3,7 +3,7 @@
 use crate::{Answer, solve};
 use rst_clause::{ClauseDomain, Clauses};
 use rst_outside::NoMemory;
-use rst_value::{Domain, Tern};
+use rst_value::Domain;
 use std::alloc::Global;
 use std::test::Fail;
 
@@ -18,26 +18,6 @@ fn query(alloc: Global, both: bool) -> Result<Clauses, NoMemory> {
         domain.require(&[meet])?;
     }
     Ok(domain.finish())
-}
-
-#[test]
-fn contradictions_are_refuted_without_a_decision(rt: HostRuntime) -> Result<(), Fail> {
-    let clauses = query(rt.alloc(), true)?;
-    match solve(rt.alloc(), &clauses, 4)? {
-        Answer::Refuted { log, paths } => {
-            assert_eq!(rt; log.len(), 1);
-            assert_eq!(rt; paths.len(), 1);
-            for place in paths[0].as_slice() {
-                assert!(rt; matches!(place, Tern::Unknown));
-            }
-        }
-        _ => assert!(rt; false, "not refuted"),
-    }
-    match solve(rt.alloc(), &clauses, 0)? {
-        Answer::Spent { paths } => assert_eq!(rt; paths.len(), 0),
-        _ => assert!(rt; false, "not spent"),
-    }
-    Ok(())
 }
 
 #[test]
