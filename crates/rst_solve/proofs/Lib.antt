@@ -1,0 +1,9 @@
+pub mod Walk
+pub mod Steps
+pub mod End
+pub mod Places
+pub mod Counting
+pub mod Branches
+pub mod Models
+pub mod Leaves
+pub mod Start

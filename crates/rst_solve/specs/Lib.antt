@@ -1,0 +1,4 @@
+pub mod Analysis
+pub mod Search
+pub mod Tree
+pub mod Answers
