@@ -1,10 +1,10 @@
 -- One line of a log: the opposites of its literals on the trail, and what propagation finds from them.
-use Rattle.std.proofs.Common.{◌≡◌, ◌≢◌, ℕ, zero, suc, ◌+◌, ◌<◌, ◌≤◌, ◌⊎◌, inl, inr, ℤ, List, [], ◌∷◌, ◌++◌, length, take, get_or, refl, sym, ◌∙◌, subst, ap, arith, append-nil, add-one}
+use Rattle.std.proofs.Common.{◌≡◌, ℕ, ◌+◌, ◌<◌, inl, inr, ℤ, List, [], ◌∷◌, ◌++◌, length, take, get_or, refl, sym, ◌∙◌, subst, ap, append-nil, add-one}
 use Rattle.std.specs.List.{Contains}
 use Rattle.std.proofs.Math.Seq.{take-suc}
 use Rattle.std.proofs.lemmas.List.Elements.{Contains-get_or, Contains-push, Contains-push_cases, Contains-append_left, Contains-append_right, Contains-append_cases}
 use Rattle.rst_clause.specs.Literals.{opposite}
-use Rattle.rst_clause.specs.Propagation.{Derived, Closes, units_against, Follows, AllDerived}
+use Rattle.rst_clause.specs.Propagation.{Derived, units_against, Follows, AllDerived}
 use Rattle.rst_clause.specs.Propagation.Derived.{unit}
 use Rattle.rst_clause.specs.Trails.{Trail', pushed, Grows, IsComplete, IsQuiet, IsConsistent, AllFalse}
 use Rattle.rst_clause.proofs.Members.{Contains-nil, Contains-first, Contains-one, Contains-map, Contains-from_map, opposite-opposite}

@@ -1,11 +1,10 @@
 -- All lines of a log.
-use Rattle.std.proofs.Common.{◌≡◌, ℕ, zero, suc, ◌+◌, ◌-◌, ◌<◌, ◌≤◌, ℤ, List, [], ◌∷◌, ◌++◌, length, take, get_or, refl, sym, ◌∙◌, subst, ap, arith, append_assoc, length-append, append-nil, add-one, below_more}
-use Rattle.std.specs.List.{Contains, All}
+use Rattle.std.proofs.Common.{◌≡◌, ℕ, suc, ◌+◌, ◌-◌, ◌<◌, ◌≤◌, ℤ, List, [], ◌∷◌, ◌++◌, length, take, get_or, refl, sym, ◌∙◌, subst, ap, arith, append_assoc, length-append, append-nil, add-one, below_more}
+use Rattle.std.specs.List.{Contains}
 use Rattle.std.proofs.Math.Seq.{take-suc, take-length, get_or-append_seam}
-use Rattle.std.proofs.lemmas.List.{get_or_default}
 use Rattle.std.proofs.lemmas.List.Elements.{All-take, Contains-get_or, Contains-append_left, Contains-append_right}
 use Rattle.rst_clause.specs.Literals.{opposite, AreClauses, AreLiterals}
-use Rattle.rst_clause.specs.Propagation.{Derived, Closes, units_against, Follows, AllDerived, IsRefutation}
+use Rattle.rst_clause.specs.Propagation.{Closes, units_against, Follows, AllDerived}
 use Rattle.rst_clause.specs.Trails.{Trail', Grows, AllFalse}
 use Rattle.rst_clause.proofs.Extending.{AreAmong, derived_more}
 use Rattle.rst_clause.proofs.Ranges.{AreClauses-append}

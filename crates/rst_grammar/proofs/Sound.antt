@@ -1,5 +1,5 @@
 -- What is read spells the tree.
-use Rattle.std.proofs.Common.{◌≡◌, ℕ, zero, suc, ◌+◌, ◌<◌, ◌≤◌, Bool, true, false, cond, leb, nat_eq, List, [], ◌∷◌, ◌++◌, length, Option, Some, None, refl, sym, ap, subst, ◌∙◌, arith, inl, inr}
+use Rattle.std.proofs.Common.{◌≡◌, ℕ, zero, suc, ◌+◌, ◌<◌, ◌≤◌, cond, leb, nat_eq, List, [], ◌∷◌, length, Option, Some, None, refl, sym, ap, subst, ◌∙◌, arith, inl, inr}
 use Rattle.std.proofs.lemmas.Bool.{leb-true, eqb-true, cases_lt}
 use Rattle.rst_lex.specs.declared.token.Literal.{Literal}
 use Rattle.rst_word.specs.declared.ops.BinaryOp.{BinaryOp}
@@ -8,7 +8,7 @@ use Rattle.rst_grammar.specs.declared.symbol.Terminal.{Terminal}
 use Rattle.rst_grammar.specs.declared.symbol.Terminal.TheVariants as terminal
 use Rattle.rst_grammar.specs.declared.symbol.Symbol.{Symbol}
 use Rattle.rst_grammar.specs.declared.symbol.Symbol.TheVariants as symbol
-use Rattle.rst_grammar.specs.Says.{Nothing, One, ◌⊗◌, quoted, named}
+use Rattle.rst_grammar.specs.Says.{One, ◌⊗◌, quoted}
 use Rattle.rst_grammar.specs.Expressions.{IsUnary, IsBinary, binary_of, unary_of, level, level_of, Spells, SpellsAll, SpellsMore}
 use Rattle.rst_grammar.specs.Reading.{◌>>=◌, cases, after, Readers, readers, higher, operator_at, operand_in, terminal_in, number_in, named_in, select_end, part_end, paren_in, signed_in, unsigned_in, more_in, list_from, join_in, repeat_in, braces_in, braces_end, unary_in, with_right, tail_in, binary_in, choice_in, choice_end, full_in}
 use Rattle.rst_grammar.proofs.Fronts.{Front, joined, one_front, nothing_front}

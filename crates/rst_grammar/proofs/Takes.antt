@@ -1,5 +1,5 @@
 -- What spells a tree is read.
-use Rattle.std.proofs.Common.{◌≡◌, ℕ, zero, suc, ◌+◌, ◌<◌, ◌≤◌, List, [], ◌∷◌, ◌++◌, length, Option, Some, None, refl, sym, ap, ◌∙◌, arith, length-append}
+use Rattle.std.proofs.Common.{◌≡◌, ℕ, zero, suc, ◌+◌, ◌<◌, ◌≤◌, List, [], ◌∷◌, ◌++◌, length, Option, Some, None, refl, sym, ap, ◌∙◌, arith}
 use Rattle.std.proofs.lemmas.Bool.{le-leb, eq-eqb}
 use Rattle.rst_lex.specs.declared.token.Literal.{Literal}
 use Rattle.rst_word.specs.declared.ops.UnaryOp.{UnaryOp}
@@ -11,9 +11,9 @@ use Rattle.rst_grammar.specs.declared.symbol.Symbol.{Symbol}
 use Rattle.rst_grammar.specs.declared.symbol.Symbol.TheVariants as symbol
 use Rattle.rst_grammar.specs.Says.{Nothing, One, ◌⊗◌, quoted, named}
 use Rattle.rst_grammar.specs.Expressions.{IsUnary, IsBinary, binary_of, unary_of, level, level_of, Spells, SpellsAll, SpellsMore}
-use Rattle.rst_grammar.specs.Reading.{◌>>=◌, after, Readers, readers, higher, operator_at, operand_in, terminal_in, number_in, named_in, select_end, part_end, paren_in, signed_in, unsigned_in, more_in, list_from, join_in, repeat_in, braces_in, braces_end, unary_in, with_right, tail_in, binary_in, choice_in, choice_end, full_in}
+use Rattle.rst_grammar.specs.Reading.{after, Readers, readers, higher, operand_in, terminal_in, number_in, named_in, select_end, part_end, paren_in, signed_in, unsigned_in, more_in, list_from, join_in, repeat_in, braces_in, braces_end, unary_in, with_right, tail_in, binary_in, choice_in, choice_end, full_in}
 use Rattle.rst_grammar.proofs.Fronts.{Front, split, one_is, nothing_is, whole, no_longer}
-use Rattle.rst_grammar.proofs.Tools.{MayFollow, Follows, Follows-weaker, close_follows, close_bracket_follows, colon_follows, close_brace_follows, open_brace_follows, comma_follows, question_follows, operator_follows, operator_at-none, operator_at-some, height_positive, level_positive}
+use Rattle.rst_grammar.proofs.Tools.{Follows, Follows-weaker, close_follows, close_bracket_follows, colon_follows, close_brace_follows, open_brace_follows, comma_follows, question_follows, operator_follows, operator_at-none, operator_at-some, height_positive, level_positive}
 
 -- ---- one node, over what its parts give
 

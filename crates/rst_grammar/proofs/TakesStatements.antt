@@ -1,5 +1,5 @@
 -- What spells a statement is read.
-use Rattle.std.proofs.Common.{◌≡◌, ℕ, zero, suc, ◌+◌, ◌<◌, ◌≤◌, Bool, true, false, cond, nat_eq, List, [], ◌∷◌, ◌++◌, length, Option, Some, None, refl, sym, ap, ◌∙◌, arith}
+use Rattle.std.proofs.Common.{◌≡◌, ℕ, zero, suc, ◌+◌, ◌<◌, ◌≤◌, Bool, true, false, nat_eq, List, [], ◌∷◌, ◌++◌, length, Some, None, refl, sym, ap, ◌∙◌, arith}
 use Rattle.std.proofs.lemmas.Bool.{eqb-true}
 use Rattle.rst_lex.specs.declared.token.Literal.{Literal}
 use Rattle.rst_word.specs.declared.ops.UnaryOp.{UnaryOp}
@@ -13,12 +13,12 @@ use Rattle.rst_grammar.specs.declared.symbol.Terminal.TheVariants as terminal
 use Rattle.rst_grammar.specs.declared.symbol.Symbol.{Symbol}
 use Rattle.rst_grammar.specs.declared.symbol.Symbol.TheVariants as symbol
 use Rattle.rst_grammar.specs.Says.{Nothing, One, ◌⊗◌, quoted, named}
-use Rattle.rst_grammar.specs.Expressions.{IsUnary, IsBinary, unary_of, Spells, SpellsAll, SpellsMore}
+use Rattle.rst_grammar.specs.Expressions.{IsUnary, IsBinary, unary_of, Spells, SpellsAll}
 use Rattle.rst_grammar.specs.Targets.{SpellsTarget, SpellsTargets}
 use Rattle.rst_grammar.specs.Statements.{ends_open, assignment, case_word, defaults, HasArm, MayBeNamed, unnamed, with_name, MayBeColon, no_colon, colon, SpellsLabel, SpellsLabels, SpellsMoreLabels, SpellsStmt, SpellsStmts, SpellsArms}
-use Rattle.rst_grammar.specs.Reading.{◌>>=◌, after, cases, number_of, Readers, readers, higher, full_in, binary_in, operand_in, number_in}
-use Rattle.rst_grammar.specs.ReadStatement.{TargetReader, StmtReader, target_reader, assignment_at, set_in, else_in, if_in, behind_name, block_name, until_end, block_in, masked_at, label_in, more_labels, labels_in, default_colon, arms_in, some_arms, case_in, word_in, stmt_in, stmt_reader}
-use Rattle.rst_grammar.proofs.Fronts.{Front, split, one_is, one_front, nothing_is, whole, no_longer}
+use Rattle.rst_grammar.specs.Reading.{◌>>=◌, after, Readers, readers, higher, full_in, binary_in, operand_in, number_in}
+use Rattle.rst_grammar.specs.ReadStatement.{TargetReader, StmtReader, target_reader, set_in, else_in, if_in, block_name, until_end, block_in, masked_at, label_in, more_labels, labels_in, default_colon, arms_in, some_arms, case_in, word_in, stmt_in, stmt_reader}
+use Rattle.rst_grammar.proofs.Fronts.{Front, split, one_is, nothing_is, whole, no_longer}
 use Rattle.rst_grammar.proofs.Tools.{Follows, close_follows, colon_follows, comma_follows, semicolon_follows}
 use Rattle.rst_grammar.proofs.Takes.{full_takes, unary_is}
 use Rattle.rst_grammar.proofs.TakesTargets.{NoBracket, target_takes}

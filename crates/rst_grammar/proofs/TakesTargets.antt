@@ -1,6 +1,6 @@
 -- What spells a target is read.
-use Rattle.std.proofs.Common.{◌≡◌, ℕ, zero, suc, ◌+◌, ◌<◌, ◌≤◌, List, [], ◌∷◌, length, Option, Some, None, refl, sym, ap, ◌∙◌, arith}
-use Rattle.rst_tree.specs.Trees.{Tree, height}
+use Rattle.std.proofs.Common.{◌≡◌, ℕ, zero, suc, ◌+◌, ◌≤◌, List, [], ◌∷◌, length, Some, None, refl, sym, ap, ◌∙◌, arith}
+use Rattle.rst_tree.specs.Trees.{Tree}
 use Rattle.rst_tree.specs.Targets.{Place, Places, Whole, Bit, Part, Join, end, more, height_of_target, greatest_target}
 use Rattle.rst_grammar.specs.declared.symbol.Terminal.TheVariants as terminal
 use Rattle.rst_grammar.specs.declared.symbol.Symbol.{Symbol}
@@ -8,7 +8,7 @@ use Rattle.rst_grammar.specs.declared.symbol.Symbol.TheVariants as symbol
 use Rattle.rst_grammar.specs.Says.{Nothing, One, ◌⊗◌, quoted, named}
 use Rattle.rst_grammar.specs.Expressions.{Spells}
 use Rattle.rst_grammar.specs.Targets.{SpellsTarget, SpellsTargets, SpellsMoreTargets}
-use Rattle.rst_grammar.specs.Reading.{◌>>=◌, after, Readers, readers}
+use Rattle.rst_grammar.specs.Reading.{after, Readers, readers}
 use Rattle.rst_grammar.specs.ReadStatement.{TargetReader, target_part, target_select, target_named, more_targets, target_join, target_in, target_reader}
 use Rattle.rst_grammar.proofs.Fronts.{Front, split, one_is, nothing_is, whole, no_longer}
 use Rattle.rst_grammar.proofs.Tools.{close_bracket_follows, colon_follows}

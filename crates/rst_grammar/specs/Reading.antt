@@ -1,6 +1,6 @@
 -- Reading expressions from left to right, below a height. These functions are what the code computes; the grammar itself
 -- is in Expressions.
-use Rattle.std.specs.Prelude.{◌≡◌, ℕ, zero, suc, ◌+◌, length, List, [], ◌∷◌, Bool, true, false, Option, Some, None, option_and_then, nat_le, nat_eq, if◌then◌else◌}
+use Rattle.std.specs.Prelude.{ℕ, zero, suc, ◌+◌, length, List, [], ◌∷◌, Option, Some, None, option_and_then, nat_le, nat_eq, if◌then◌else◌}
 use Rattle.rst_lex.specs.declared.token.Literal.{Literal}
 use Rattle.rst_word.specs.declared.ops.BinaryOp.{BinaryOp}
 use Rattle.rst_tree.specs.Trees.{Tree, Trees, Number, Name, Bit, Part, Paren, Unary, Binary, Choose, Join, Repeat, Signed, Unsigned, end, more, height}

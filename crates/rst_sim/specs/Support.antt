@@ -1,6 +1,6 @@
 -- Which registers' next values depend on inputs and on registers of a set alone.
 -- A set of registers is a list with a bit for each register, true where it is in the set.
-use Rattle.std.specs.Prelude.{◌≡◌, ℕ, ◌+◌, Bool, true, false, ◌&&◌, if◌then◌else◌, List, [], ◌∷◌, replicate, count_by}
+use Rattle.std.specs.Prelude.{◌≡◌, ℕ, Bool, true, ◌&&◌, List, [], ◌∷◌, replicate, count_by}
 use Rattle.std.specs.List.{AllZip}
 use Rattle.rst_value.specs.Domains.{Named}
 use Rattle.rst_gate.specs.Operations.{Operations}

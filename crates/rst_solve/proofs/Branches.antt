@@ -1,29 +1,29 @@
 -- Steps in the tree of decisions, over plain values.
-use Rattle.std.proofs.Common.{◌≡◌, ◌≢◌, ℕ, zero, suc, ◌+◌, ◌-◌, ◌^◌, ◌<◌, ◌≤◌, ◌⊎◌, inl, inr, ℤ, pos, negsuc, Bool, true, false, not, List, [], ◌∷◌, ◌++◌, length, take, set, get_or, refl, sym, ◌∙◌, subst, ap, arith, unsigned_abs, add-one, length-append, append-nil, append_assoc, add-zero, eqb}
+use Rattle.std.proofs.Common.{◌≡◌, ◌≢◌, ℕ, zero, suc, ◌+◌, ◌-◌, ◌<◌, ◌≤◌, inl, inr, ℤ, pos, negsuc, Bool, true, false, List, [], ◌∷◌, ◌++◌, length, take, set, get_or, refl, sym, ◌∙◌, subst, ap, arith, length-append, add-zero, eqb}
 use Rattle.std.proofs.Math.ListN.{get_or-append, length-set}
 use Rattle.std.proofs.Math.Nat.{eq-or-lt_of_le}
 use Rattle.std.proofs.lemmas.Bool.{cases_lt}
 use Rattle.std.proofs.lemmas.Bool.Decides.{eqb_tells}
 use Rattle.std.proofs.Math.Seq.{take-suc, take-length, get_or-append_seam, get_or-append_right}
-use Rattle.std.specs.List.{Contains, All}
-use Rattle.std.proofs.lemmas.List.{get_or_default, take-append-le}
+use Rattle.std.specs.List.{Contains}
+use Rattle.std.proofs.lemmas.List.{take-append-le}
 use Rattle.std.proofs.Common.{get_or-set_other, get_or-set_same}
-use Rattle.std.proofs.lemmas.List.Elements.{Contains-get_or, Contains-push, Contains-push_cases, Contains-append_left, Contains-append_right, Contains-append_cases, All-contains}
+use Rattle.std.proofs.lemmas.List.Elements.{Contains-get_or, Contains-push, Contains-push_cases, Contains-append_left, Contains-append_right, Contains-append_cases}
 use Rattle.rst_value.specs.declared.tern.Tern.{Tern}
 use Rattle.rst_value.specs.declared.tern.Tern.TheVariants.{Unknown}
 use Rattle.rst_value.specs.Terns.{known}
-use Rattle.rst_clause.specs.Literals.{opposite, literal_holds, Holds, Solves, AreLiterals, AreClauses, IsLiteral}
-use Rattle.rst_clause.specs.Propagation.{Derived, Closes, Follows, AllDerived, units}
+use Rattle.rst_clause.specs.Literals.{literal_holds, Holds, Solves, AreClauses}
+use Rattle.rst_clause.specs.Propagation.{Derived, Closes, AllDerived, units}
 use Rattle.rst_clause.specs.Extension.{literal_of}
 use Rattle.rst_clause.specs.Paths.{path_literals, LiesIn, AreDisjoint, HasNoSolution, IsTight}
-use Rattle.rst_clause.specs.Trails.{Trail', Grows, IsComplete, IsQuiet, IsConsistent, AllFalse, pushed}
-use Rattle.rst_clause.proofs.Members.{Contains-nil, Contains-first, Contains-one, Contains-map, Contains-from_map, Contains-take, opposite-opposite}
-use Rattle.rst_clause.proofs.Extending.{AreAmong, derived_more, unit1}
+use Rattle.rst_clause.specs.Trails.{Trail', Grows, IsComplete, IsQuiet, IsConsistent, AllFalse}
+use Rattle.rst_clause.proofs.Members.{Contains-nil, Contains-first, Contains-one, Contains-map, Contains-from_map, Contains-take}
+use Rattle.rst_clause.proofs.Extending.{derived_more, unit1}
 use Rattle.rst_clause.proofs.Sound.{closes_refutes, follows_holds}
 use Rattle.rst_clause.proofs.Grown.{grown_derived, false_closes, complete_open}
 use Rattle.rst_solve.specs.Search.{AreLearnt, Knows, AllKnownTo}
 use Rattle.rst_solve.specs.Tree.{NoneEmpty, LastEmpty, IsPath, ArePaths, KeepsApart}
-use Rattle.rst_solve.proofs.Places.{place_cases, place_kept, place_has, place_within, values_apart, set-back, known-not_unknown}
+use Rattle.rst_solve.proofs.Places.{place_cases, place_kept, place_has, set-back, known-not_unknown}
 
 -- one more path
 pub paths_push : (free : ℕ) (cs : List (List ℤ)) (ps : List (List Tern)) (p : List Tern) → ArePaths free cs ps → IsPath free cs p → KeepsApart ps p

@@ -1,8 +1,7 @@
 -- The learnt clauses as a log.
-use Rattle.std.proofs.Common.{◌≡◌, ℕ, zero, suc, ◌+◌, ◌-◌, ◌<◌, ◌≤◌, ℤ, List, [], ◌∷◌, ◌++◌, length, take, get_or, refl, sym, ◌∙◌, subst, ap, arith, length-append, get_or-append-add}
-use Rattle.std.specs.List.{Contains, All}
+use Rattle.std.proofs.Common.{◌≡◌, ℕ, suc, ◌+◌, ◌-◌, ◌<◌, ◌≤◌, ℤ, List, [], ◌∷◌, ◌++◌, length, take, get_or, refl, sym, ◌∙◌, subst, ap, arith, length-append, get_or-append-add}
 use Rattle.std.proofs.Math.Seq.{take-suc, take-length, take-append-add, take-append_seam}
-use Rattle.std.proofs.lemmas.List.Elements.{Contains-get_or, All-from_get_or, All-get_or}
+use Rattle.std.proofs.lemmas.List.Elements.{All-from_get_or}
 use Rattle.rst_clause.specs.Literals.{opposite, AreLiterals, AreClauses}
 use Rattle.rst_clause.specs.Propagation.{Follows, IsRefutation}
 use Rattle.rst_clause.specs.Trails.{AllFalse}

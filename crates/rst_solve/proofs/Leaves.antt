@@ -1,17 +1,16 @@
 -- What a part of the search adds, put together from its parts.
-use Rattle.std.proofs.Common.{◌≡◌, ◌≢◌, ℕ, zero, suc, ◌+◌, ◌-◌, ◌^◌, ◌<◌, ◌≤◌, ◌⊎◌, inl, inr, ℤ, pos, negsuc, Bool, true, false, List, [], ◌∷◌, ◌++◌, length, take, set, get_or, refl, sym, ◌∙◌, subst, ap, arith, length-append, append-nil, append_assoc}
-use Rattle.std.proofs.Math.ListN.{length-set, get_or-append}
+use Rattle.std.proofs.Common.{◌≡◌, ℕ, zero, suc, ◌+◌, ◌-◌, ◌^◌, ◌<◌, ◌≤◌, ℤ, Bool, true, false, List, [], ◌∷◌, ◌++◌, length, take, set, get_or, sym, ◌∙◌, subst, ap, arith, length-append, append-nil, append_assoc}
 use Rattle.std.specs.List.{Contains}
 use Rattle.rst_value.specs.declared.tern.Tern.{Tern}
 use Rattle.rst_value.specs.declared.tern.Tern.TheVariants.{Unknown}
 use Rattle.rst_value.specs.Terns.{known}
 use Rattle.rst_clause.specs.Propagation.{AllDerived, units}
 use Rattle.rst_clause.specs.Extension.{literal_of}
-use Rattle.rst_clause.specs.Paths.{path_literals, LiesIn, HasNoSolution, IsTight}
-use Rattle.rst_clause.specs.Trails.{Trail', Grows, pushed, IsComplete, IsConsistent}
+use Rattle.rst_clause.specs.Paths.{path_literals, LiesIn}
+use Rattle.rst_clause.specs.Trails.{Trail', Grows}
 use Rattle.rst_clause.proofs.Grown.{grown_continues, continues_has}
 use Rattle.rst_solve.specs.Search.{AllKnownTo}
-use Rattle.rst_solve.specs.Tree.{original, NoneEmpty, LastEmpty, IsPath, ArePaths, KeepsApart, ArePosed, IsAt, HasRoomAt, IsSolution, Tells, Explored}
+use Rattle.rst_solve.specs.Tree.{original, LastEmpty, IsPath, ArePaths, KeepsApart, ArePosed, IsAt, HasRoomAt, IsSolution, Tells, Explored}
 use Rattle.rst_solve.specs.declared.search.Bounds.{Bounds}
 use Rattle.rst_solve.specs.declared.search.State.{State}
 use Rattle.rst_solve.specs.declared.search.Found.{Found}

@@ -1,18 +1,17 @@
 -- A complete trail that knows the free bits gives a solution.
-use Rattle.std.proofs.Common.{◌≡◌, ◌≢◌, ℕ, zero, suc, ◌+◌, ◌<◌, ◌≤◌, ◌⊎◌, inl, inr, ℤ, pos, negsuc, Bool, true, false, not, List, [], ◌∷◌, ◌++◌, length, take, get_or, refl, sym, ◌∙◌, subst, ap, arith, unsigned_abs, ◌↔◌, length-append}
-use Rattle.std.specs.List.{Contains, All}
+use Rattle.std.proofs.Common.{◌≡◌, ◌≢◌, ℕ, zero, suc, ◌+◌, ◌<◌, ◌≤◌, ◌⊎◌, inl, inr, ℤ, pos, negsuc, Bool, true, false, not, List, [], ◌∷◌, ◌++◌, length, get_or, refl, sym, ◌∙◌, subst, ap, arith, ◌↔◌, length-append}
+use Rattle.std.specs.List.{Contains}
 use Rattle.std.proofs.Math.ListN.{get_or-append}
 use Rattle.std.proofs.Math.Nat.{eq-or-lt_of_le}
 use Rattle.std.proofs.Math.Seq.{get_or-append_seam}
 use Rattle.std.proofs.Math.Logic.{∥∥₁_elim}
-use Rattle.std.proofs.lemmas.List.Elements.{Contains-push_cases, Contains-append_left, Contains-append_cases, All-contains}
-use Rattle.rst_clause.specs.Literals.{opposite, literal_holds, Holds, Solves, IsLiteral, AreLiterals, AreClauses}
-use Rattle.rst_clause.specs.Propagation.{Derived, units}
+use Rattle.std.proofs.lemmas.List.Elements.{Contains-push_cases, Contains-append_cases, All-contains}
+use Rattle.rst_clause.specs.Literals.{opposite, literal_holds, Solves, IsLiteral, AreLiterals, AreClauses}
+use Rattle.rst_clause.specs.Propagation.{units}
 use Rattle.rst_clause.specs.Operations.{IsDefined}
 use Rattle.rst_clause.specs.Extension.{AgreeTo, literal_of, choice_literals, HasOneExtension}
-use Rattle.rst_clause.specs.Standing.{BeginsWith}
 use Rattle.rst_clause.specs.Trails.{IsComplete, IsQuiet, IsConsistent}
-use Rattle.rst_clause.proofs.Members.{Contains-nil, Contains-first, Contains-later, Contains-one, Contains-cons_cases, Contains-from_map, Contains-take, Holds-or, same_or_not}
+use Rattle.rst_clause.proofs.Members.{Contains-nil, Contains-first, Contains-later, Contains-one, Contains-cons_cases, Contains-from_map, Holds-or, same_or_not}
 use Rattle.rst_clause.proofs.Extending.{defined_extends}
 use Rattle.rst_clause.proofs.Grown.{derived_stands}
 use Rattle.rst_solve.specs.Search.{Knows, AllKnownTo, IsModel}

@@ -1,13 +1,12 @@
 -- One more known place of a path.
-use Rattle.std.proofs.Common.{◌≡◌, ◌≢◌, ℕ, zero, suc, ◌+◌, ◌<◌, ◌≤◌, ◌⊎◌, inl, inr, ℤ, pos, negsuc, Bool, true, false, not, List, [], ◌∷◌, ◌++◌, length, set, get_or, refl, sym, ◌∙◌, subst, ap, arith, add-zero}
+use Rattle.std.proofs.Common.{◌≡◌, ◌≢◌, ℕ, zero, suc, ◌+◌, ◌<◌, ◌⊎◌, inl, inr, ℤ, pos, negsuc, Bool, true, false, List, [], ◌∷◌, length, set, get_or, refl, sym, ◌∙◌, subst, ap, arith, add-zero}
 use Rattle.std.specs.List.{Contains}
-use Rattle.std.proofs.Math.ListN.{length-set}
 use Rattle.rst_value.specs.declared.tern.Tern.{Tern}
 use Rattle.rst_value.specs.declared.tern.Tern.TheVariants.{Zero, One, Unknown}
 use Rattle.rst_value.specs.Terns.{known}
-use Rattle.rst_clause.specs.Literals.{literal_holds, opposite}
+use Rattle.rst_clause.specs.Literals.{opposite}
 use Rattle.rst_clause.specs.Extension.{literal_of}
-use Rattle.rst_clause.specs.Paths.{literals_from, path_literals, LiesIn, AreDisjoint}
+use Rattle.rst_clause.specs.Paths.{literals_from, path_literals, LiesIn}
 use Rattle.rst_clause.proofs.Members.{Contains-nil, Contains-first, Contains-later, Contains-cons_cases, not_both}
 
 literals-set_from : (n : ℕ) (path : List Tern) (i : ℕ) (b : Bool) → i < length path → get_or path i Unknown ≡ Unknown

@@ -1,17 +1,16 @@
 -- The search from the start, and what its end says.
-use Rattle.std.proofs.Common.{◌≡◌, ◌≢◌, ℕ, zero, suc, ◌+◌, ◌-◌, ◌^◌, ◌<◌, ◌≤◌, ◌⊎◌, inl, inr, ℤ, List, [], ◌∷◌, ◌++◌, length, take, get_or, replicate, refl, sym, ◌∙◌, subst, ap, arith, length-append, get_or-append-add, Bool}
-use Rattle.std.proofs.Math.Seq.{take-length, take-append_seam}
+use Rattle.std.proofs.Common.{◌≡◌, ℕ, zero, suc, ◌+◌, ◌-◌, ◌^◌, ◌<◌, ◌≤◌, inl, ℤ, List, [], ◌++◌, length, take, get_or, replicate, refl, sym, ◌∙◌, subst, ap, arith, length-append, get_or-append-add, Bool}
+use Rattle.std.proofs.Math.Seq.{take-length}
 use Rattle.std.specs.List.{Contains}
 use Rattle.std.proofs.lemmas.List.{length-take-le}
 use Rattle.rst_value.specs.declared.tern.Tern.{Tern}
 use Rattle.rst_value.specs.declared.tern.Tern.TheVariants.{Unknown}
-use Rattle.rst_clause.specs.Literals.{AreClauses}
 use Rattle.rst_clause.specs.Operations.{IsDefined}
 use Rattle.rst_clause.specs.Propagation.{IsRefutation}
-use Rattle.rst_clause.specs.Paths.{path_literals, IsTight}
+use Rattle.rst_clause.specs.Paths.{IsTight}
 use Rattle.rst_clause.proofs.Members.{Contains-nil}
-use Rattle.rst_solve.specs.Search.{IsReady, AreLearnt, Searched}
-use Rattle.rst_solve.specs.Tree.{original, NoneEmpty, LastEmpty, ArePaths, KeepsApart, ArePosed, IsAt, HasRoomAt, IsSolution, Explored}
+use Rattle.rst_solve.specs.Search.{AreLearnt, Searched}
+use Rattle.rst_solve.specs.Tree.{original, NoneEmpty, LastEmpty, ArePaths, KeepsApart, IsAt, HasRoomAt, IsSolution, Explored}
 use Rattle.rst_solve.specs.Answers.{EndsEmptyAlone}
 use Rattle.rst_solve.specs.declared.search.Bounds.{Bounds}
 use Rattle.rst_solve.specs.declared.search.State.{State}

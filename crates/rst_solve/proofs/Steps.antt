@@ -1,19 +1,18 @@
 -- Steps of the search, over plain values.
-use Rattle.std.proofs.Common.{◌≡◌, ◌≢◌, ℕ, zero, suc, ◌+◌, ◌-◌, ◌^◌, ◌<◌, ◌≤◌, ◌⊎◌, inl, inr, ℤ, pos, negsuc, Bool, true, false, List, [], ◌∷◌, ◌++◌, length, take, set, get_or, refl, sym, ◌∙◌, subst, ap, arith, unsigned_abs, add-one, length-append, append-nil, Option, Some, append_assoc, get_or-set_other, get_or-set_same}
+use Rattle.std.proofs.Common.{◌≡◌, ◌≢◌, ℕ, zero, suc, ◌+◌, ◌-◌, ◌<◌, ◌≤◌, ◌⊎◌, inl, inr, ℤ, pos, negsuc, Bool, false, List, [], ◌∷◌, ◌++◌, length, take, set, get_or, refl, sym, ◌∙◌, subst, ap, arith, unsigned_abs, add-one, length-append, append-nil, Option, Some, append_assoc, get_or-set_other, get_or-set_same}
 use Rattle.std.proofs.Math.ListN.{get_or-append}
 use Rattle.std.proofs.Math.Nat.{eq-or-lt_of_le}
 use Rattle.std.proofs.Math.Seq.{take-suc, take-length, take-append_seam, get_or-append_seam}
 use Rattle.std.specs.List.{Contains, All}
 use Rattle.rst_solve.proofs.Walk.{same_number}
-use Rattle.rst_value.specs.declared.tern.Tern.{Tern}
-use Rattle.std.proofs.lemmas.List.{get_or_default, take-append-le}
+use Rattle.std.proofs.lemmas.List.{take-append-le}
 use Rattle.std.proofs.lemmas.List.Elements.{Contains-get_or, Contains-push, Contains-push_cases, Contains-append_left, Contains-append_right, All-push, All-contains}
 use Rattle.rst_clause.specs.Literals.{opposite, IsLiteral, AreLiterals, AreClauses}
-use Rattle.rst_clause.specs.Propagation.{Derived, Closes, Follows, units_against}
+use Rattle.rst_clause.specs.Propagation.{Derived, Follows, units_against}
 use Rattle.rst_clause.specs.Propagation.Derived.{unit}
-use Rattle.rst_clause.specs.Trails.{Trail', AllFalse, AllFalseBut, Grows, pushed, IsUnit}
-use Rattle.rst_clause.proofs.Members.{Contains-nil, Contains-first, Contains-one, Contains-map, opposite-opposite, Contains-take}
-use Rattle.rst_solve.specs.Analysis.{AreAmong, Refutes, literal_at, reason_at, IsImpliedAt, AreImpliedFrom, IsResolved}
+use Rattle.rst_clause.specs.Trails.{Trail', AllFalse, Grows, pushed, IsUnit}
+use Rattle.rst_clause.proofs.Members.{Contains-nil, Contains-first, Contains-one, Contains-map}
+use Rattle.rst_solve.specs.Analysis.{Refutes, literal_at, reason_at, IsImpliedAt, AreImpliedFrom, IsResolved}
 use Rattle.rst_solve.specs.Search.{last_of, AreLearnt, IsReady, Keeps, Says, Searched, TakesOthers, AreBoth, Spread, Notes}
 use Rattle.rst_clause.specs.Sweeps.{Propagates}
 use Rattle.rst_solve.specs.declared.search.Bounds.{Bounds}

@@ -1,9 +1,9 @@
 -- The walk back over a trail.
-use Rattle.std.proofs.Common.{◌≡◌, ◌≢◌, ℕ, zero, suc, ◌+◌, ◌<◌, ◌≤◌, ◌⊎◌, inl, inr, ℤ, pos, negsuc, Bool, true, false, List, [], ◌∷◌, ◌++◌, length, take, set, get_or, replicate, refl, sym, ◌∙◌, subst, ap, arith, unsigned_abs, add-one, min, get_or-set_same, get_or-set_other}
+use Rattle.std.proofs.Common.{◌≡◌, ◌≢◌, ℕ, zero, suc, ◌+◌, ◌<◌, ◌≤◌, ◌⊎◌, inl, inr, ℤ, pos, negsuc, Bool, true, false, List, [], ◌∷◌, ◌++◌, length, take, set, get_or, refl, sym, ◌∙◌, subst, ap, arith, unsigned_abs, add-one, min, get_or-set_same, get_or-set_other}
 use Rattle.std.proofs.Math.ListN.{length-set}
 use Rattle.std.proofs.Math.Nat.{eq-or-lt_of_le}
 use Rattle.std.proofs.Math.Seq.{take-suc, take-length}
-use Rattle.std.specs.List.{Contains, All}
+use Rattle.std.specs.List.{Contains}
 use Rattle.std.specs.Bool.{Decides}
 use Rattle.std.specs.Prelude.{◌==◌}
 use Rattle.std.proofs.lemmas.Bool.Decides.{Decides-eqb}
@@ -12,9 +12,9 @@ use Rattle.std.proofs.lemmas.List.Elements.{Contains-get_or, Contains-push, Cont
 use Rattle.rst_clause.specs.Literals.{opposite, IsLiteral, AreLiterals}
 use Rattle.rst_clause.specs.Propagation.{Derived, Closes}
 use Rattle.rst_clause.specs.Propagation.Derived.{unit}
-use Rattle.rst_clause.specs.Trails.{Trail', AllFalse, AllFalseBut}
-use Rattle.rst_clause.proofs.Members.{Contains-nil, opposite-opposite, Contains-take}
-use Rattle.rst_solve.specs.Analysis.{AreAmong, Refutes, literal_at, reason_at, IsImpliedAt, AreImpliedFrom, IsResolved, MarksMore}
+use Rattle.rst_clause.specs.Trails.{Trail', AllFalse}
+use Rattle.rst_clause.proofs.Members.{Contains-nil, opposite-opposite}
+use Rattle.rst_solve.specs.Analysis.{AreAmong, literal_at, reason_at, IsImpliedAt, IsResolved, MarksMore}
 
 abs-opposite : (k : ℤ) → unsigned_abs (opposite k) ≡ unsigned_abs k
 abs-opposite (pos zero) = refl

@@ -1,5 +1,5 @@
 -- What a conflict leaves.
-use Rattle.std.specs.Prelude.{◌≡◌, ◌≢◌, ℕ, ◌+◌, ◌<◌, ◌≤◌, ℤ, pos, Bool, true, false, List, [], length, slice_index_or, take, unsigned_abs}
+use Rattle.std.specs.Prelude.{◌≡◌, ℕ, ◌<◌, ◌≤◌, ℤ, pos, Bool, true, false, List, [], length, slice_index_or, take, unsigned_abs}
 use Rattle.std.specs.List.{Contains}
 use Rattle.rst_clause.specs.Literals.{opposite, AreLiterals}
 use Rattle.rst_clause.specs.Propagation.{Derived, Closes}

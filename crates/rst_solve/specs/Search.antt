@@ -1,9 +1,9 @@
 -- The state of a search.
-use Rattle.std.specs.Prelude.{◌≡◌, ◌≢◌, ℕ, ◌+◌, ◌-◌, ◌^◌, ◌<◌, ◌≤◌, ◌⊎◌, ℤ, pos, negsuc, suc, List, [], ◌∷◌, ◌++◌, length, slice_index_or, take, unsigned_abs, Option, MatchOption, Bool, true, false, ◌↔◌}
+use Rattle.std.specs.Prelude.{◌≡◌, ◌≢◌, ℕ, ◌-◌, ◌^◌, ◌<◌, ◌≤◌, ◌⊎◌, ℤ, pos, negsuc, suc, List, [], ◌∷◌, ◌++◌, length, slice_index_or, take, unsigned_abs, Option, MatchOption, Bool, true, false, ◌↔◌}
 use Rattle.std.specs.List.{Contains}
-use Rattle.rst_clause.specs.Literals.{opposite, AreLiterals, AreClauses}
+use Rattle.rst_clause.specs.Literals.{AreClauses}
 use Rattle.rst_clause.specs.Propagation.{Follows}
-use Rattle.rst_clause.specs.Trails.{Trail', AllFalse, Grows, IsComplete}
+use Rattle.rst_clause.specs.Trails.{AllFalse, Grows, IsComplete}
 use Rattle.rst_solve.specs.Analysis.{AreImpliedFrom}
 use Rattle.rst_solve.specs.declared.search.Bounds.{Bounds}
 use Rattle.rst_solve.specs.declared.search.State.{State}

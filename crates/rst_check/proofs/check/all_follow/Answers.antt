@@ -1,12 +1,10 @@
-use Rattle.std.proofs.Common.{arith, ◌≡◌, ◌<◌, ◌≤◌, ◌^◌, ◌+◌, ◌++◌, ◌∷◌, [], length, subst, ap, ◌∙◌, sym, take, refl, ℕ, List, ℤ, true, false, get_or}
-use Rattle.std.specs.List.{Contains}
+use Rattle.std.proofs.Common.{arith, ◌≡◌, ◌<◌, ◌+◌, ◌++◌, ◌∷◌, [], length, subst, ap, ◌∙◌, sym, refl, List, ℤ, true, false, get_or}
 use Rattle.std.proofs.lemmas.List.{get_or_default}
-use Rattle.rst_clause.specs.Literals.{AreLiterals, AreClauses}
 use Rattle.rst_clause.specs.Propagation.{Follows}
 use Rattle.rst_clause.specs.Trails.{Trail'}
 use Rattle.rst_clause.proofs.Members.{absent}
 use Rattle.rst_check.specs.Lines.{Begins}
-use Rattle.rst_check.proofs.Replays.{Replayed, replayed_start, replayed_in_range, replayed_derived, replayed_more, not_replayed, replayed_all, cut_back}
+use Rattle.rst_check.proofs.Replays.{Replayed, replayed_start, replayed_derived, replayed_more, not_replayed, replayed_all, cut_back}
 use Rattle.rst_check.proofs.check.all_follow.Goals as goal
 
 pub loop-i-init : goal.loop-i-init

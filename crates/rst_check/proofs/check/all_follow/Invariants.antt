@@ -1,4 +1,3 @@
-use Rattle.std.proofs.Common.{take, ◌≡◌}
 use Rattle.rst_check.proofs.Replays.{Replayed}
 use Rattle.rst_check.proofs.check.all_follow.Given as goal
 

@@ -1,7 +1,7 @@
-use Rattle.std.proofs.Common.{arith, ◌≡◌, ◌<◌, ◌≤◌, ◌^◌, length, subst, ap, ◌∙◌, sym, take, refl, ℕ, Option, Some, None, List, ℤ, true, false}
+use Rattle.std.proofs.Common.{arith, ◌≡◌, ◌<◌, ◌^◌, length, subst, ap, ◌∙◌, sym, take, refl, ℕ, Option, true, false}
 use Rattle.std.specs.List.{Contains}
 use Rattle.std.proofs.Math.Seq.{take-length}
-use Rattle.rst_clause.specs.Literals.{opposite, AreClauses}
+use Rattle.rst_clause.specs.Literals.{AreClauses}
 use Rattle.rst_clause.specs.Sweeps.{Propagates}
 use Rattle.rst_check.proofs.LineSteps.{Assumed, assumed_start, assumed_there, assumed_pushed, assumed_begins, grown_begins, stands_follows, found_follows, none_follows, line_has}
 use Rattle.rst_check.proofs.check.follows.Goals as goal

@@ -1,4 +1,4 @@
-use Rattle.std.proofs.Common.{take, ◌≡◌}
+use Rattle.std.proofs.Common.{take}
 use Rattle.rst_check.proofs.LineSteps.{Assumed}
 use Rattle.rst_check.proofs.check.follows.Given as goal
 

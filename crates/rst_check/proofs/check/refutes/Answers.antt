@@ -1,4 +1,4 @@
-use Rattle.std.proofs.Common.{◌≡◌, ◌<◌, ◌++◌, length, subst, sym, refl, true, ℕ, Option, Some, List, ℤ}
+use Rattle.std.proofs.Common.{◌++◌, subst, sym, refl, ℕ, Option, List, ℤ}
 use Rattle.rst_clause.specs.Propagation.{Closes}
 use Rattle.rst_clause.specs.Sweeps.{Propagates}
 use Rattle.rst_check.specs.Lines.{EachFollows}

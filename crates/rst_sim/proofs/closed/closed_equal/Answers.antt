@@ -1,4 +1,4 @@
-use Rattle.std.proofs.Common.{◌≡◌, ◌∙◌, ◌<◌, ◌≤◌, length, ap, sym, arith}
+use Rattle.std.proofs.Common.{◌≡◌, ◌∙◌, ◌<◌, length, ap, sym, arith}
 use Rattle.rst_sim.specs.Support.{next_support, narrowed, members}
 use Rattle.rst_sim.proofs.Sets.{within-itself, within-through, within-counted, narrowed-within, length-narrowed, members-narrowed, closed-within-narrowed, turn-smaller}
 use Rattle.rst_sim.proofs.closed.closed_equal.Goals as goal

@@ -1,6 +1,5 @@
-use Rattle.std.proofs.Common.{◌∙◌, ◌≡◌, ◌<◌, ◌≤◌, ◌+◌, ap, length, get_or, subst}
+use Rattle.std.proofs.Common.{◌∙◌, ◌≡◌, ◌<◌, ◌≤◌, ap, length, get_or, subst}
 use Rattle.rst_gate.specs.GateMachines.{terns_of}
-use Rattle.rst_sim.specs.Trails.{tern_trail}
 use Rattle.rst_sim.proofs.Turns.{trail_more, trail_end, length-trail, last-trail}
 use Rattle.rst_sim.proofs.run.tern_run.Goals as goal
 

@@ -1,4 +1,4 @@
-use Rattle.std.proofs.Common.{arith, ◌≡◌, ◌<◌, ◌≤◌, ◌+◌, length, subst, sym, unsigned_abs}
+use Rattle.std.proofs.Common.{arith, ◌<◌, ◌≤◌, length, subst, sym, unsigned_abs}
 use Rattle.rst_clause.specs.Literals.{IsLiteral}
 use Rattle.rst_solve.proofs.Walk.{marks_step}
 use Rattle.rst_solve.proofs.analyze.mark.Goals as goal

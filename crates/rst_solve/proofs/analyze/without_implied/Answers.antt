@@ -1,9 +1,8 @@
-use Rattle.std.proofs.Common.{arith, ◌≡◌, ◌<◌, ◌≤◌, ◌+◌, ◌-◌, length, subst, sym, ◌∙◌, ap, unsigned_abs, get_or, List, ℤ, ℕ, [], true, false, refl, pos}
+use Rattle.std.proofs.Common.{arith, ◌≡◌, ◌<◌, ◌≤◌, ◌+◌, ◌-◌, length, subst, sym, ◌∙◌, ap, unsigned_abs, get_or, List, ℤ, [], false, pos}
 use Rattle.std.proofs.lemmas.List.{get_or_default}
 use Rattle.std.proofs.lemmas.Grind.{common_steps}
-use Rattle.rst_clause.specs.Literals.{IsLiteral, AreLiterals, opposite}
-use Rattle.rst_clause.specs.Trails.{Trail'}
-use Rattle.rst_solve.specs.Analysis.{literal_at, reason_at, IsImpliedAt, MarksMore}
+use Rattle.rst_clause.specs.Literals.{IsLiteral, AreLiterals}
+use Rattle.rst_solve.specs.Analysis.{literal_at, reason_at, MarksMore}
 use Rattle.rst_solve.proofs.Walk.{Seen, OutSoFar, seen_start, seen_resolved, seen_passed, out_more, out_passed, resolved_from, read_mark}
 use Rattle.rst_solve.proofs.analyze.without_implied.Goals as goal
 use Rattle.rst_solve.proofs.analyze.without_implied.Goals.{then-index-2+in_ok-push, else-index-2}

@@ -1,18 +1,18 @@
-use Rattle.std.proofs.Common.{arith, refl, ◌≡◌, ◌≢◌, ◌+◌, ◌-◌, ◌<◌, ◌≤◌, ◌++◌, ◌∷◌, length, subst, sym, ◌∙◌, ap, List, ℤ, [], get_or, set, suc, pos, negsuc, take, true, false, Option, ℕ, Some, None}
+use Rattle.std.proofs.Common.{arith, refl, ◌≡◌, ◌+◌, ◌-◌, ◌<◌, ◌≤◌, ◌++◌, ◌∷◌, length, subst, sym, ◌∙◌, ap, List, ℤ, [], get_or, set, suc, pos, negsuc, take, true, false, Option, ℕ, Some, None}
 use Rattle.std.specs.List.{Contains}
 use Rattle.std.proofs.Math.ListN.{length-set}
 use Rattle.rst_value.specs.declared.tern.Tern.{Tern}
 use Rattle.rst_value.specs.declared.tern.Tern.TheVariants.{Unknown}
 use Rattle.rst_value.specs.Terns.{known}
 use Rattle.std.proofs.lemmas.List.Elements.{All-take, Contains-append_left}
-use Rattle.rst_clause.specs.Literals.{opposite, AreLiterals, AreClauses}
+use Rattle.rst_clause.specs.Literals.{AreLiterals, AreClauses}
 use Rattle.rst_clause.specs.Extension.{literal_of}
 use Rattle.std.specs.Vec.{with_item}
-use Rattle.rst_clause.specs.Paths.{LiesIn, IsTight}
+use Rattle.rst_clause.specs.Paths.{IsTight}
 use Rattle.rst_clause.specs.Trails.{Trail', AllFalse, IsComplete, pushed}
 use Rattle.rst_clause.proofs.Members.{absent}
 use Rattle.rst_solve.specs.Search.{last_of, Searched, Keeps, Spread, AllKnownTo}
-use Rattle.rst_solve.specs.Tree.{Explored, original, NoneEmpty, LastEmpty, IsPath, ArePaths, KeepsApart, IsAt, HasRoomAt, IsSolution}
+use Rattle.rst_solve.specs.Tree.{Explored, original, NoneEmpty, IsPath, KeepsApart, IsAt, HasRoomAt, IsSolution}
 use Rattle.rst_solve.specs.declared.search.Found.{Found}
 use Rattle.rst_solve.specs.declared.search.Found.TheVariants.{Closed, Model, Spent}
 use Rattle.rst_solve.proofs.Places.{place_within}

@@ -1,4 +1,4 @@
-use Rattle.std.proofs.Common.{◌≡◌, ◌∙◌, subst, sym, ap, refl, inl, inr, ◌⊎◌, ℤ, pos, suc, negsuc}
+use Rattle.std.proofs.Common.{◌≡◌, ◌∙◌, subst, sym, ap, refl, inl, inr, ℤ, negsuc}
 use Rattle.std.specs.List.{Contains}
 use Rattle.rst_clause.specs.Literals.{opposite}
 use Rattle.rst_clause.proofs.Members.{absent}

@@ -1,4 +1,4 @@
-use Rattle.std.proofs.Common.{arith, ◌≡◌, ◌+◌, ◌-◌, ◌<◌, ◌≤◌, length, refl, subst, sym, ◌∙◌}
+use Rattle.std.proofs.Common.{arith, ◌≡◌, ◌+◌, ◌-◌, length, refl}
 use Rattle.rst_solve.proofs.Steps.{added_resolved, not_added}
 use Rattle.rst_solve.proofs.Branches.{last_push, none_last}
 use Rattle.rst_solve.proofs.search.learn.Goals as goal

@@ -1,4 +1,4 @@
-use Rattle.std.proofs.Common.{arith, refl, ◌≡◌, ◌≢◌, ◌+◌, ◌-◌, ◌<◌, ◌≤◌, ◌∷◌, length, subst, sym, ◌∙◌, ap, List, ℤ, [], get_or, true, false, take}
+use Rattle.std.proofs.Common.{arith, refl, ◌≡◌, ◌-◌, ◌<◌, length, subst, sym, ◌∙◌, ap, List, ℤ, [], get_or, true, false, take}
 use Rattle.std.specs.Prelude.{◌==◌}
 use Rattle.rst_clause.specs.Trails.{AllFalse}
 use Rattle.rst_clause.proofs.Members.{Contains-nil}

@@ -1,6 +1,5 @@
-use Rattle.std.proofs.Common.{◌≡◌, ◌↔◌, subst, true, ℤ, pos, suc, List, Bool}
+use Rattle.std.proofs.Common.{◌≡◌, ◌↔◌, subst, true, ℤ}
 use Rattle.std.specs.List.{Contains}
-use Rattle.rst_solve.specs.Search.{IsModel}
 use Rattle.rst_solve.proofs.Models.{model_push}
 use Rattle.rst_solve.proofs.search.model.Goals as goal
 

@@ -1,5 +1,5 @@
-use Rattle.std.proofs.Common.{below_more, ◌≡◌, subst, arith}
-use Rattle.rst_solve.specs.Search.{Knows, AllKnownTo}
+use Rattle.std.proofs.Common.{below_more, arith}
+use Rattle.rst_solve.specs.Search.{Knows}
 use Rattle.rst_solve.proofs.search.next_open.Goals as goal
 
 pub loop-bit-preserved : goal.loop-bit-preserved

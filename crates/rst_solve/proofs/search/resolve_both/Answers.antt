@@ -1,4 +1,4 @@
-use Rattle.std.proofs.Common.{arith, refl, ◌≡◌, ◌+◌, ◌-◌, ◌<◌, length, subst, sym, ◌∙◌, ap, List, ℤ, [], get_or, suc, add-one}
+use Rattle.std.proofs.Common.{refl, ◌≡◌, ◌+◌, ◌-◌, subst, ◌∙◌, ap, [], get_or, suc, add-one}
 use Rattle.rst_solve.specs.Search.{TakesOthers, last_of}
 use Rattle.rst_solve.proofs.Steps.{both_added}
 use Rattle.rst_solve.proofs.Branches.{last_push}

@@ -1,10 +1,8 @@
-use Rattle.std.proofs.Common.{arith, refl, ◌≡◌, ◌+◌, ◌-◌, ◌<◌, length, subst, sym, ◌∙◌, ap, List, ℤ, [], get_or, suc, add-one, negsuc, take}
+use Rattle.std.proofs.Common.{arith, ◌≡◌, ◌-◌, ◌<◌, length, subst, sym, ◌∙◌, ap, [], get_or, negsuc, take}
 use Rattle.std.specs.List.{Contains}
-use Rattle.std.proofs.lemmas.List.{get_or_default}
-use Rattle.rst_clause.specs.Literals.{opposite}
 use Rattle.rst_clause.specs.Trails.{Trail', AllFalse}
 use Rattle.rst_clause.proofs.Members.{absent}
-use Rattle.rst_solve.specs.Search.{TakesOthers, last_of, Searched}
+use Rattle.rst_solve.specs.Search.{last_of, Searched}
 use Rattle.rst_solve.specs.declared.search.Found.TheVariants.{Closed}
 use Rattle.rst_solve.proofs.Steps.{joined, last_lacks, implied_kept}
 use Rattle.rst_solve.proofs.Branches.{last_some, contains_some}

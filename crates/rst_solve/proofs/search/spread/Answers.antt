@@ -1,4 +1,4 @@
-use Rattle.std.proofs.Common.{◌≡◌, ℕ, List, ℤ, length, Option, Result, Ok, Err, IfOk}
+use Rattle.std.proofs.Common.{◌≡◌, ℕ, length, Option, Result, Ok, Err, IfOk}
 use Rattle.rst_clause.specs.Trails.{Trail'}
 use Rattle.rst_clause.specs.Sweeps.{Propagates}
 use Rattle.rst_solve.specs.Search.{IsReady, Spread}

@@ -1,4 +1,4 @@
-use Rattle.std.proofs.Common.{arith, ◌≡◌, ◌≢◌, ◌<◌, length, sym, ◌∙◌, unsigned_abs}
+use Rattle.std.proofs.Common.{arith, ◌≢◌, ◌<◌, length, sym, ◌∙◌, unsigned_abs}
 use Rattle.rst_solve.proofs.Steps.{others_start, others_pushed, others_passed}
 use Rattle.rst_solve.proofs.search.take_others.Goals as goal
 use Rattle.rst_solve.proofs.search.take_others.Goals.{then-variable+in_ok-push, else-variable}
