@@ -1,6 +1,6 @@
 -- Values at places are the values by name.
-use Rattle.std.proofs.Common.{◌≡◌, ℕ, zero, suc, ◌+◌, ◌<◌, Bool, true, false, cond, List, [], ◌∷◌, length, map, get_or, Option, Some, None, refl, sym, ap, ◌∙◌, arith, bytes_eq, if◌then◌else◌}
-use Rattle.std.specs.Prelude.{slice_index_or, option_map}
+use Rattle.std.proofs.Common.{◌≡◌, ℕ, suc, ◌+◌, ◌<◌, Bool, true, false, cond, List, [], ◌∷◌, length, map, get_or, Option, Some, None, refl, sym, ap, ◌∙◌, arith, bytes_eq, if◌then◌else◌}
+use Rattle.std.specs.Prelude.{option_map}
 use Rattle.std.specs.List.{position, position_from}
 use Rattle.std.proofs.lemmas.Iterator.Adapters.{position_from-zero}
 use Rattle.std.proofs.lemmas.List.{get_or_default}
@@ -14,8 +14,8 @@ use Rattle.rst_small_tree.specs.declared.tree.Body.TheVariants as body
 use Rattle.rst_small_tree.specs.declared.tree.Block.{Block}
 use Rattle.rst_small_tree.specs.Tree.{Source}
 use Rattle.rst_small_source.specs.Names.{input_names, register_names, target_of}
-use Rattle.rst_small_source.specs.Meaning.{value_among, valuation, operand_value, inverted_if, primary_value, body_value, next_value, next_values}
-use Rattle.rst_small_source.specs.Rules.{found_at, place_among, name_place, operand_place, term_of, rule_of, hold, rule_for, rules_of, place_value, term_value, rule_value}
+use Rattle.rst_small_source.specs.Meaning.{value_among, operand_value, inverted_if, primary_value, body_value, next_value, next_values}
+use Rattle.rst_small_source.specs.Rules.{place_among, name_place, operand_place, term_of, rule_of, rule_for, rules_of, place_value, term_value, rule_value}
 
 shift : {K : Type 0} (t : K → Bool) (i : ℕ) (xs : List K) → position_from t (i + 1) xs ≡ option_map suc (position_from t i xs)
 shift t i [] = refl

@@ -1,5 +1,5 @@
 -- What the reader answers: the conditions as one test, and the source that a text spells.
-use Rattle.std.proofs.Common.{◌≡◌, ◌≤◌, ℕ, Bool, true, false, ◌&&◌, List, length, map, Option, Some, None, refl, sym, ap, ◌∙◌, subst, bytes_eq}
+use Rattle.std.proofs.Common.{◌≡◌, ℕ, Bool, true, false, ◌&&◌, List, length, map, Option, Some, None, refl, sym, ap, ◌∙◌, subst, bytes_eq}
 use Rattle.std.specs.Prelude.{IfSome, IsNone, nat_le}
 use Rattle.std.specs.List.{list_any, list_all}
 use Rattle.std.proofs.lemmas.Bool.{leb-true, le-leb, and_from, and_parts}
@@ -12,7 +12,7 @@ use Rattle.rst_small_tree.proofs.Whole.{one}
 use Rattle.rst_small_source.specs.Names.{port_name, input_names, register_names, target_names}
 use Rattle.rst_small_source.specs.Symbols.{token_symbol}
 use Rattle.rst_small_source.specs.Spelling.{Written, SpellsSource}
-use Rattle.rst_small_source.specs.Form.{is_listed, is_distinct, are_listed, is_input, sets_one, body_reads, IsOfForm, is_of_form}
+use Rattle.rst_small_source.specs.Form.{is_distinct, are_listed, is_input, sets_one, body_reads, IsOfForm, is_of_form}
 use Rattle.rst_small_source.specs.Designs.{DesignOf}
 
 module _ (top clock : List ℕ) (source : Source) where

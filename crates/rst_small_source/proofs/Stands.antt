@@ -1,5 +1,5 @@
 -- The three-valued reading of a source is sound.
-use Rattle.std.proofs.Common.{◌≡◌, ℕ, Bool, true, false, not, List, [], ◌∷◌, length, map, refl, sym, ap, ◌∙◌, bytes_eq, if◌then◌else◌}
+use Rattle.std.proofs.Common.{ℕ, Bool, true, false, not, List, [], ◌∷◌, map, refl, ap, bytes_eq, if◌then◌else◌}
 use Rattle.std.specs.List.{AllZip}
 use Rattle.rst_value.specs.Bits.{bit_mux}
 use Rattle.rst_value.specs.declared.tern.Tern.{Tern}
@@ -15,7 +15,7 @@ use Rattle.rst_small_tree.specs.declared.tree.Body.TheVariants as body
 use Rattle.rst_small_tree.specs.declared.tree.Block.{Block}
 use Rattle.rst_small_tree.specs.Tree.{Source}
 use Rattle.rst_small_source.specs.Names.{input_names, register_names, target_of}
-use Rattle.rst_small_source.specs.Meaning.{bit_of, value_among, valuation, operand_value, inverted_if, primary_value, body_value, next_value, next_values, machine_of, terns_of}
+use Rattle.rst_small_source.specs.Meaning.{value_among, valuation, operand_value, inverted_if, primary_value, body_value, next_value, machine_of, terns_of}
 
 not-stands : (a : Tern) (x : Bool) → StandsFor a x → StandsFor (not_table a) (not x)
 not-stands Zero x e = ap not e

@@ -1,5 +1,5 @@
 -- What a design stands for.
-use Rattle.std.specs.Prelude.{◌≡◌, ℕ, ◌≤◌, List, length, map}
+use Rattle.std.specs.Prelude.{◌≡◌, ℕ, ◌≤◌, List, length}
 use Rattle.rst_outside.specs.declared.names.PortBits.{PortBits}
 use Rattle.rst_small_tree.specs.Tree.{Source}
 use Rattle.rst_small_source.specs.declared.rules.Rule.{Rule}

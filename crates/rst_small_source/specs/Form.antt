@@ -1,11 +1,10 @@
 -- The conditions of form S on a source.
-use Rattle.std.specs.Prelude.{◌≡◌, ℕ, ◌≤◌, Bool, true, false, not, ◌&&◌, ◌||◌, List, [], ◌∷◌, length, map, bytes_eq, nat_le, IsTrue}
+use Rattle.std.specs.Prelude.{ℕ, ◌≤◌, Bool, true, false, not, ◌&&◌, ◌||◌, List, [], ◌∷◌, length, map, bytes_eq, nat_le, IsTrue}
 use Rattle.std.specs.List.{list_any, list_all}
 use Rattle.rst_small_tree.specs.declared.tree.Port.{Port}
 use Rattle.rst_small_tree.specs.declared.tree.Port.TheVariants as port
 use Rattle.rst_small_tree.specs.declared.tree.Operand.{Operand}
 use Rattle.rst_small_tree.specs.declared.tree.Operand.TheVariants.{Bit, Named}
-use Rattle.rst_small_tree.specs.declared.tree.Primary.{Primary}
 use Rattle.rst_small_tree.specs.declared.tree.Body.{Body}
 use Rattle.rst_small_tree.specs.declared.tree.Body.TheVariants.{Set, Choose}
 use Rattle.rst_small_tree.specs.declared.tree.Block.{Block}

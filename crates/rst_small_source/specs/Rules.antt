@@ -1,5 +1,5 @@
 -- A source with its names resolved to places: for each register, what sets it.
-use Rattle.std.specs.Prelude.{ℕ, Bool, true, false, List, [], ◌∷◌, Option, Some, None, map, bytes_eq, if◌then◌else◌, slice_index_or}
+use Rattle.std.specs.Prelude.{ℕ, false, List, [], ◌∷◌, Option, Some, None, map, bytes_eq, if◌then◌else◌, slice_index_or}
 use Rattle.std.specs.List.{position}
 use Rattle.rst_small_tree.specs.declared.tree.Operand.{Operand}
 use Rattle.rst_small_tree.specs.declared.tree.Operand.TheVariants as operand

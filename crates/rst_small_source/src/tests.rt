@@ -1,6 +1,10 @@
-//! Sources that are of the form, sources that are not.
+//! Sources that are of the form, sources that are not, and what their runs know.
 
-use crate::{Design, read_small_source};
+ghost use Rattle.std.specs.Prelude.{◌≡◌, ◌↔◌, IsTrue, length};
+ghost use Rattle.std.specs.List.{AllByRecursion};
+
+use crate::{Design, knows, read_small_source};
+use rst_gate::{Bits, Sequence};
 use rst_outside::NoMemory;
 use std::alloc::Global;
 use std::test::Fail;
@@ -55,5 +59,48 @@ fn other_sources(rt: HostRuntime) -> Result<(), Fail> {
     for text in texts {
         assert!(rt; read(rt.alloc(), text)?.is_none(), "{text}");
     }
+    Ok(())
+}
+
+// Whether each input has so many bits.
+fn all_of(seq: &Sequence, bits: usize) -> bool
+    ensures { IsTrue result ↔ AllByRecursion (λ input. length input ≡ bits) seq.now }
+{
+    for input in seq.as_slice() {
+        if input.len() != bits {
+            return false;
+        }
+    }
+    true
+}
+
+// Whether a source with one input knows its registers behind these inputs.
+fn knows_behind(alloc: Global, text: &str, inputs: &[bool]) -> Result<bool, Fail> {
+    let design = read(alloc, text)?.ok_or("no design")?;
+    let mut seq = Sequence::new(alloc);
+    for bit in inputs {
+        let mut input = Bits::new(alloc);
+        input.push(*bit)?;
+        seq.push(input)?;
+    }
+    if !all_of(&seq, design.inputs().len()) {
+        return Err("another number of inputs")?;
+    }
+    Ok(knows(alloc, &design, &seq)?)
+}
+
+#[test]
+fn known_registers(rt: HostRuntime) -> Result<(), Fail> {
+    let alloc = rt.alloc();
+    assert!(rt; !knows_behind(alloc, TOGGLE, [].as_slice())?);
+    assert!(rt; !knows_behind(alloc, TOGGLE, [false].as_slice())?);
+    assert!(rt; knows_behind(alloc, TOGGLE, [true].as_slice())?);
+    assert!(rt; knows_behind(alloc, TOGGLE, [true, false, false].as_slice())?);
+    let same =
+        "module t(input clk, input d, output reg q); always @(posedge clk) if (q) q <= d; else q <= d; endmodule";
+    let other =
+        "module t(input clk, input d, output reg q); always @(posedge clk) if (q) q <= 1'b0; else q <= 1'b1; endmodule";
+    assert!(rt; knows_behind(alloc, same, [false].as_slice())?);
+    assert!(rt; !knows_behind(alloc, other, [true].as_slice())?);
     Ok(())
 }

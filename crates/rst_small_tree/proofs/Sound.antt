@@ -1,5 +1,5 @@
 -- What is read is written so.
-use Rattle.std.proofs.Common.{◌≡◌, ◌≤◌, ◌+◌, ℕ, zero, suc, true, false, List, [], ◌∷◌, ◌++◌, length, Option, Some, None, refl, sym, ap, subst, ◌∙◌, nat_eq, append_assoc, Bool, if◌then◌else◌, arith, length-append}
+use Rattle.std.proofs.Common.{◌≡◌, ◌≤◌, ℕ, zero, suc, true, false, List, [], ◌∷◌, ◌++◌, length, Option, Some, None, refl, sym, ap, subst, ◌∙◌, nat_eq, append_assoc, Bool, if◌then◌else◌, arith}
 use Rattle.std.specs.List.{flat_map}
 use Rattle.rst_small_tree.specs.declared.symbol.Symbol.{Symbol}
 use Rattle.rst_small_tree.specs.declared.symbol.Symbol.TheVariants as symbol
@@ -14,7 +14,7 @@ use Rattle.rst_small_tree.specs.declared.tree.Body.TheVariants.{Set, Choose}
 use Rattle.rst_small_tree.specs.declared.tree.Block.{Block}
 use Rattle.rst_small_tree.specs.declared.tree.Port.{Port}
 use Rattle.rst_small_tree.specs.declared.tree.Port.TheVariants as port
-use Rattle.rst_small_tree.specs.Tree.{Source, sign_symbols, operand_symbol, primary_symbols, assignment_symbols, body_symbols, event_symbols, block_symbols, port_symbols, next_port_symbols, ports_symbols, source_symbols, Spells}
+use Rattle.rst_small_tree.specs.Tree.{Source, sign_symbols, operand_symbol, primary_symbols, assignment_symbols, body_symbols, event_symbols, block_symbols, port_symbols, next_port_symbols, ports_symbols, Spells}
 use Rattle.rst_small_tree.specs.Reading.{Reader, ◌>>=◌, after, name_at, operand_at, set_at, input_at, many, with_item, with_front, signed_at, primary_from, primary_at, assignment_at, choice_at, body_from, body_at, event_at, register_at, port_from, port_at, ports_at, blocks_at, header_at, source_of, at_end}
 use Rattle.std.proofs.lemmas.Bool.{eqb-true}
 use Rattle.rst_small_tree.specs.Marks.{number, is_mark}

@@ -1,5 +1,5 @@
 -- What is written is read, with what stands behind it.
-use Rattle.std.proofs.Common.{◌≡◌, ◌≤◌, ◌+◌, ℕ, zero, suc, Bool, true, false, List, [], ◌∷◌, ◌++◌, length, Option, Some, None, refl, sym, ap, ◌∙◌, append_assoc, arith, length-append}
+use Rattle.std.proofs.Common.{◌≡◌, ◌≤◌, ℕ, zero, suc, Bool, true, false, List, [], ◌∷◌, ◌++◌, length, Some, None, refl, ap, ◌∙◌, append_assoc, arith, length-append}
 use Rattle.std.specs.List.{flat_map}
 use Rattle.rst_small_tree.specs.declared.symbol.Symbol.{Symbol}
 use Rattle.rst_small_tree.specs.declared.symbol.Symbol.TheVariants as symbol
@@ -14,8 +14,8 @@ use Rattle.rst_small_tree.specs.declared.tree.Body.TheVariants.{Set, Choose}
 use Rattle.rst_small_tree.specs.declared.tree.Block.{Block}
 use Rattle.rst_small_tree.specs.declared.tree.Port.{Port}
 use Rattle.rst_small_tree.specs.declared.tree.Port.TheVariants as port
-use Rattle.rst_small_tree.specs.Tree.{Source, sign_symbols, operand_symbol, primary_symbols, assignment_symbols, body_symbols, event_symbols, block_symbols, port_symbols, next_port_symbols, ports_symbols, source_symbols, Spells}
-use Rattle.rst_small_tree.specs.Reading.{Reader, ◌>>=◌, after, many, with_item, with_front, signed_at, primary_from, primary_at, assignment_at, choice_at, body_from, body_at, event_at, register_at, port_from, port_at, ports_at, blocks_at, header_at, source_of, at_end}
+use Rattle.rst_small_tree.specs.Tree.{Source, sign_symbols, operand_symbol, primary_symbols, assignment_symbols, body_symbols, event_symbols, block_symbols, port_symbols, next_port_symbols, ports_symbols, source_symbols}
+use Rattle.rst_small_tree.specs.Reading.{Reader, after, many, with_front, signed_at, primary_from, primary_at, assignment_at, choice_at, body_from, body_at, event_at, register_at, port_from, port_at, ports_at, blocks_at, header_at, source_of}
 use Rattle.rst_small_tree.proofs.Many.{many-none, many-some}
 
 signed_takes : (inverted : Bool) (o : Operand) (rest : List Symbol) → primary_at ((sign_symbols inverted ++ operand_symbol o ∷ []) ++ rest) ≡ Some (record { inverted = inverted; operand = o }, rest)

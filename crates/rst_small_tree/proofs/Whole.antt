@@ -1,7 +1,7 @@
 -- A whole source.
-use Rattle.std.proofs.Common.{◌≡◌, ◌≤◌, List, Option, Some, None, length, sym, ap, ◌∙◌, subst}
+use Rattle.std.proofs.Common.{◌≡◌, List, Some, None, sym, ap, ◌∙◌}
 use Rattle.rst_small_tree.specs.declared.symbol.Symbol.{Symbol}
-use Rattle.rst_small_tree.specs.Tree.{Source, source_symbols, Spells}
+use Rattle.rst_small_tree.specs.Tree.{Source, Spells}
 use Rattle.rst_small_tree.specs.Reading.{source_of}
 use Rattle.rst_small_tree.proofs.Takes.{source_takes}
 

@@ -1,4 +1,4 @@
-use Rattle.std.proofs.Common.{◌≡◌, map, take, drop, ◌++◌}
+use Rattle.std.proofs.Common.{◌≡◌, drop}
 use Rattle.rst_small_source.specs.Form.{is_distinct}
 use Rattle.rst_small_source.proofs.form.is_distinct.Given as goal
 

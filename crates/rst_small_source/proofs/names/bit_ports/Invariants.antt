@@ -1,4 +1,4 @@
-use Rattle.std.proofs.Common.{◌≡◌, map, take, drop, ◌++◌}
+use Rattle.std.proofs.Common.{◌≡◌, take}
 use Rattle.rst_small_source.specs.Names.{bit_ports}
 use Rattle.rst_small_source.proofs.names.bit_ports.Given as goal
 

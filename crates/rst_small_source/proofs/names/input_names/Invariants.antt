@@ -1,4 +1,4 @@
-use Rattle.std.proofs.Common.{◌≡◌, map, take, drop, ◌++◌}
+use Rattle.std.proofs.Common.{◌≡◌, drop, ◌++◌}
 use Rattle.rst_small_source.specs.Names.{inputs_among}
 use Rattle.rst_small_source.proofs.names.input_names.Given as goal
 

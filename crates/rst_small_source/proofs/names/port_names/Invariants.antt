@@ -1,4 +1,4 @@
-use Rattle.std.proofs.Common.{◌≡◌, map, take, drop, ◌++◌}
+use Rattle.std.proofs.Common.{◌≡◌, map, take}
 use Rattle.rst_small_source.specs.Names.{port_name}
 use Rattle.rst_small_source.proofs.names.port_names.Given as goal
 

@@ -1,4 +1,4 @@
-use Rattle.std.proofs.Common.{◌≡◌, map, take, drop, ◌++◌}
+use Rattle.std.proofs.Common.{◌≡◌, drop, ◌++◌}
 use Rattle.rst_small_source.specs.Names.{registers_among}
 use Rattle.rst_small_source.proofs.names.register_names.Given as goal
 

@@ -1,4 +1,4 @@
-use Rattle.std.proofs.Common.{◌≡◌, map, take, drop, ◌++◌}
+use Rattle.std.proofs.Common.{◌≡◌, map, take}
 use Rattle.rst_small_source.specs.Names.{target_of}
 use Rattle.rst_small_tree.specs.declared.tree.Block.{Block}
 use Rattle.rst_small_source.proofs.names.target_names.Given as goal

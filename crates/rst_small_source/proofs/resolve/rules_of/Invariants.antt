@@ -1,4 +1,4 @@
-use Rattle.std.proofs.Common.{◌≡◌, map, take, drop, ◌++◌}
+use Rattle.std.proofs.Common.{◌≡◌, map, take}
 use Rattle.rst_small_source.specs.Rules.{rule_for}
 use Rattle.rst_small_source.proofs.resolve.rules_of.Given as goal
 

@@ -1,4 +1,4 @@
-use Rattle.std.proofs.Common.{◌≡◌, map, take, drop, ◌++◌}
+use Rattle.std.proofs.Common.{◌≡◌, map, take}
 use Rattle.rst_small_source.specs.Rules.{rule_value}
 use Rattle.rst_gate.specs.Operations.{on_terns}
 use Rattle.rst_value.specs.Terns.{known}

@@ -1,5 +1,4 @@
-use Rattle.std.proofs.Common.{◌≡◌, length, map, take, drop}
-use Rattle.rst_lex.specs.Small.{InOrder}
+use Rattle.std.proofs.Common.{◌≡◌, map, take}
 use Rattle.rst_small_source.specs.Symbols.{token_symbol}
 use Rattle.rst_small_source.proofs.symbols.symbols.Given as goal
 

@@ -1,4 +1,4 @@
-use Rattle.std.proofs.Common.{◌∙◌, ap, ◌≡◌, ◌-◌, ◌+◌, length, sym, arith}
+use Rattle.std.proofs.Common.{◌≡◌, ◌-◌, ◌+◌, length, sym, arith}
 use Rattle.std.proofs.lemmas.Result.{err_from_is_err_and}
 use Rattle.rst_small_tree.specs.Reading.{event_at, many, blocks_at}
 use Rattle.rst_small_tree.specs.declared.symbol.Mark.TheVariants as mark

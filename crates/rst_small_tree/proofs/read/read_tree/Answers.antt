@@ -1,4 +1,3 @@
-use Rattle.std.proofs.Common.{◌≡◌}
 use Rattle.rst_small_tree.proofs.Whole.{no_tree}
 use Rattle.rst_small_tree.proofs.Sound.{source_is}
 use Rattle.rst_small_tree.proofs.read.read_tree.Goals as goal

@@ -1,6 +1,6 @@
 use Rattle.std.proofs.Common.{◌≡◌, ◌∙◌, ap, map}
 use Rattle.rst_outside.specs.declared.names.PortBits.{PortBits}
-use Rattle.rst_small_source.specs.Names.{input_names, register_names, bit_ports}
+use Rattle.rst_small_source.specs.Names.{register_names, bit_ports}
 use Rattle.rst_small_source.proofs.Turns.{port_names}
 use Rattle.rst_small_source.proofs.design.Design.registers.Goals as goal
 
