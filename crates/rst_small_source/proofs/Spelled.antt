@@ -104,7 +104,7 @@ module _ (text : List ℕ) (tokens : List Token) (symbols : List Symbol) (lexed 
 
   pub written_found : (found : Option Source) → IfSome found (λ s. Spells symbols s) → IfSome found (λ s. Written text s)
   written_found None spells = tt
-  written_found (Some s) spells = record { tokens = tokens; lexed = lexed; only = only; written = subst (λ (t : List Symbol). Spells t s) are spells }
+  written_found (Some s) spells = record { tokens = tokens; lexed = lexed; written = subst (λ (t : List Symbol). Spells t s) are spells }
 
   pub written_only : (found : Option Source) → IfSome found (λ s. Spells symbols s) → IfSome found (λ s. (other : Source) → Written text other → other ≡ s)
   written_only None spells = tt
@@ -131,8 +131,3 @@ module _ (top clock text : List ℕ) (source : Source) (written : Written text s
       let same : is_of_form top clock source ≡ true = subst (λ (t : Source). is_of_form top clock t ≡ true) (only s spells.text_is) (to_test top clock s spells.form) in
       let differs : false ≡ true = sym (untold is) ∙ same in
       absurd cc
-
-pub one_source : (top clock text : List ℕ) (a b : Source) → SpellsSource top clock text a → SpellsSource top clock text b → a ≡ b
-one_source top clock text a b x y =
-    let same = y.text_is.only x.text_is.tokens x.text_is.lexed in
-    one (map (token_symbol text) y.text_is.tokens) a b (subst (λ (ts : List Token). Spells (map (token_symbol text) ts) a) same x.text_is.written) y.text_is.written

@@ -1,16 +1,15 @@
 -- The sources of form S that a text spells.
-use Rattle.std.specs.Prelude.{◌≡◌, ℕ, List, map}
+use Rattle.std.specs.Prelude.{ℕ, List, map}
 use Rattle.rst_lex.specs.declared.token.Token.{Token}
 use Rattle.rst_lex.specs.Small.{SmallTokens}
 use Rattle.rst_small_tree.specs.Tree.{Source, Spells}
 use Rattle.rst_small_source.specs.Symbols.{token_symbol}
 use Rattle.rst_small_source.specs.Form.{IsOfForm}
 
--- The text is a list of tokens of form S, and of no other, and they are written as the source is.
+-- The text is a list of tokens of form S, and they are written as the source is.
 pub record Written (text : List ℕ) (source : Source) : Type 0 where
   pub tokens : List Token
   pub lexed : SmallTokens text tokens
-  pub only : (others : List Token) → SmallTokens text others → others ≡ tokens
   pub written : Spells (map (token_symbol text) tokens) source
 
 -- The text is written as the source is, and the source meets the conditions of form S, where TOP is the
