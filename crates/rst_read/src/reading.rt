@@ -1,0 +1,644 @@
+// Reading expressions, one function for each reader of the grammar's specification.
+
+ghost use Rattle.std.specs.Prelude.{◌≡◌, ◌+◌, ◌≤◌, max, IfOk, Some, IsTrue, ◌↔◌};
+ghost use Rattle.std.specs.Option.{option_map};
+ghost use Rattle.rst_tree.specs.Trees.{Tree, plain, plain_all, height, more, end, appended, Binary, Join, Repeat};
+ghost use Rattle.rst_grammar.specs.Expressions.{unary_of, binary_of, level, Spells};
+ghost use Rattle.rst_grammar.specs.Reading.{after, number_of, with_right, operator_at, part_end, select_end, named_in, number_in, terminal_in, paren_in, signed_in, unsigned_in, list_from, repeat_in, join_in, braces_in, braces_end, unary_in, operand_in, binary_in, choice_in, choice_end, full_in, readers};
+ghost use Rattle.rst_grammar.specs.declared.symbol.Terminal.TheVariants.{Comma};
+ghost use Rattle.rst_read.specs.Gives.{Gives, seen, seen_all, rest_of};
+
+use crate::parsed::{Many, Parsed};
+use crate::stop::Stop;
+use rst_grammar::{NameText, Symbol, Terminal};
+use rst_lex::Literal;
+use rst_outside::Name;
+use rst_tree::Expr;
+use rst_word::{BinaryOp, UnaryOp};
+use std::alloc::{AllocError, Global};
+
+fn unary_of(terminal: Terminal) -> Option<UnaryOp>
+    ensures { result ≡ unary_of terminal }
+{
+    match terminal {
+        Terminal::Plus => Some(UnaryOp::Plus),
+        Terminal::Minus => Some(UnaryOp::Minus),
+        Terminal::Bang => Some(UnaryOp::Not),
+        Terminal::Tilde => Some(UnaryOp::Invert),
+        Terminal::Amp => Some(UnaryOp::And),
+        Terminal::TildeAmp => Some(UnaryOp::Nand),
+        Terminal::Bar => Some(UnaryOp::Or),
+        Terminal::TildeBar => Some(UnaryOp::Nor),
+        Terminal::Caret => Some(UnaryOp::Xor),
+        Terminal::TildeCaret => Some(UnaryOp::Xnor),
+        _ => None,
+    }
+}
+
+fn binary_of(terminal: Terminal) -> Option<BinaryOp>
+    ensures { result ≡ binary_of terminal }
+{
+    match terminal {
+        Terminal::Star => Some(BinaryOp::Mul),
+        Terminal::Slash => Some(BinaryOp::Div),
+        Terminal::Percent => Some(BinaryOp::Rem),
+        Terminal::Plus => Some(BinaryOp::Add),
+        Terminal::Minus => Some(BinaryOp::Sub),
+        Terminal::ShiftLeft => Some(BinaryOp::Shl),
+        Terminal::ShiftRight => Some(BinaryOp::Shr),
+        Terminal::ArithShiftLeft => Some(BinaryOp::ArithShl),
+        Terminal::ArithShiftRight => Some(BinaryOp::ArithShr),
+        Terminal::Less => Some(BinaryOp::Lt),
+        Terminal::LessEqual => Some(BinaryOp::Le),
+        Terminal::Greater => Some(BinaryOp::Gt),
+        Terminal::GreaterEqual => Some(BinaryOp::Ge),
+        Terminal::EqualEqual => Some(BinaryOp::Eq),
+        Terminal::BangEqual => Some(BinaryOp::Ne),
+        Terminal::Amp => Some(BinaryOp::And),
+        Terminal::Caret => Some(BinaryOp::Xor),
+        Terminal::TildeCaret => Some(BinaryOp::Xnor),
+        Terminal::Bar => Some(BinaryOp::Or),
+        Terminal::AmpAmp => Some(BinaryOp::LogicAnd),
+        Terminal::BarBar => Some(BinaryOp::LogicOr),
+        _ => None,
+    }
+}
+
+fn level(op: BinaryOp) -> u8
+    ensures { result ≡ level op }
+{
+    match op {
+        BinaryOp::Mul | BinaryOp::Div | BinaryOp::Rem => 10,
+        BinaryOp::Add | BinaryOp::Sub => 9,
+        BinaryOp::Shl | BinaryOp::Shr | BinaryOp::ArithShl | BinaryOp::ArithShr => 8,
+        BinaryOp::Lt | BinaryOp::Le | BinaryOp::Gt | BinaryOp::Ge => 7,
+        BinaryOp::Eq | BinaryOp::Ne => 6,
+        BinaryOp::And => 5,
+        BinaryOp::Xor | BinaryOp::Xnor => 4,
+        BinaryOp::Or => 3,
+        BinaryOp::LogicAnd => 2,
+        BinaryOp::LogicOr => 1,
+    }
+}
+
+// The number of a terminal, by which two are compared.
+fn number_of(terminal: Terminal) -> u8
+    ensures { result ≡ number_of terminal }
+{
+    match terminal {
+        Terminal::OpenParen => 0,
+        Terminal::CloseParen => 1,
+        Terminal::OpenBracket => 2,
+        Terminal::CloseBracket => 3,
+        Terminal::OpenBrace => 4,
+        Terminal::CloseBrace => 5,
+        Terminal::Comma => 6,
+        Terminal::Semicolon => 7,
+        Terminal::Colon => 8,
+        Terminal::Dot => 9,
+        Terminal::Hash => 10,
+        Terminal::At => 11,
+        Terminal::Equal => 12,
+        Terminal::Question => 13,
+        Terminal::Plus => 14,
+        Terminal::Minus => 15,
+        Terminal::Bang => 16,
+        Terminal::Tilde => 17,
+        Terminal::Amp => 18,
+        Terminal::Bar => 19,
+        Terminal::Caret => 20,
+        Terminal::Star => 21,
+        Terminal::Slash => 22,
+        Terminal::Percent => 23,
+        Terminal::Less => 24,
+        Terminal::Greater => 25,
+        Terminal::ShiftLeft => 26,
+        Terminal::ShiftRight => 27,
+        Terminal::ArithShiftLeft => 28,
+        Terminal::ArithShiftRight => 29,
+        Terminal::LessEqual => 30,
+        Terminal::GreaterEqual => 31,
+        Terminal::EqualEqual => 32,
+        Terminal::BangEqual => 33,
+        Terminal::AmpAmp => 34,
+        Terminal::BarBar => 35,
+        Terminal::TildeAmp => 36,
+        Terminal::TildeBar => 37,
+        Terminal::TildeCaret => 38,
+        Terminal::Module => 39,
+        Terminal::Endmodule => 40,
+        Terminal::Input => 41,
+        Terminal::Output => 42,
+        Terminal::Wire => 43,
+        Terminal::Reg => 44,
+        Terminal::Signed => 45,
+        Terminal::Parameter => 46,
+        Terminal::Localparam => 47,
+        Terminal::Assign => 48,
+        Terminal::Always => 49,
+        Terminal::Posedge => 50,
+        Terminal::Negedge => 51,
+        Terminal::Or => 52,
+        Terminal::Begin => 53,
+        Terminal::End => 54,
+        Terminal::If => 55,
+        Terminal::Else => 56,
+        Terminal::Case => 57,
+        Terminal::Casez => 58,
+        Terminal::Default => 59,
+        Terminal::Endcase => 60,
+        Terminal::SystemSigned => 61,
+        Terminal::SystemUnsigned => 62,
+    }
+}
+
+// The symbols behind this terminal, where it stands in front.
+fn behind<'s, 'a>(symbols: &'s [Symbol<'a>], terminal: Terminal) -> Option<&'s [Symbol<'a>]>
+    ensures { option_map (λ x. x.now) result ≡ after terminal symbols.now }
+{
+    let (first, rest) = symbols.split_first()?;
+    let Symbol::Terminal(found) = first else {
+        return None;
+    };
+    if number_of(*found) == number_of(terminal) {
+        Some(rest)
+    } else {
+        None
+    }
+}
+
+/// The symbols behind this terminal, or NoTree where it doesn't stand in front.
+pub fn after<'s, 'a>(
+    symbols: &'s [Symbol<'a>],
+    terminal: Terminal,
+) -> Result<&'s [Symbol<'a>], Stop>
+    ensures { Gives rest_of result (after terminal symbols.now) }
+{
+    match behind(symbols, terminal) {
+        Some(rest) => Ok(rest),
+        None => Err(Stop::NoTree),
+    }
+}
+
+/// The operator in front, if it is of this level or a tighter one.
+#[tactic(auto, unfolding(rst_grammar::specs::Reading::operator_at))]
+fn operator_at<'s, 'a>(symbols: &'s [Symbol<'a>], least: u8) -> Option<(BinaryOp, &'s [Symbol<'a>])>
+    ensures { option_map (λ x. (x.0, x.1.now)) result ≡ operator_at least symbols.now }
+{
+    let (first, rest) = symbols.split_first()?;
+    let Symbol::Terminal(mark) = first else {
+        return None;
+    };
+    let op = binary_of(*mark)?;
+    if level(op) >= least {
+        Some((op, rest))
+    } else {
+        None
+    }
+}
+
+/// What an expression reader answers: the tree with its height, and the symbols behind it.
+pub type Answer<'s, 'a> = Result<(Parsed, &'s [Symbol<'a>]), Stop>;
+
+/// The expression in front, of a height of at most `limit`.
+#[cycle(read)]
+pub fn full<'s, 'a>(alloc: Global, symbols: &'s [Symbol<'a>], limit: u8) -> Answer<'s, 'a>
+    ensures reads { Gives seen result ((readers limit).full symbols.now) }
+    ensures within { IfOk result (λ x. x.0.depth ≤ limit) }
+{
+    if limit == 0 {
+        return Err(Stop::NoTree);
+    }
+    full_in(alloc, symbols, limit - 1)
+}
+
+#[cycle(read)]
+fn operand<'s, 'a>(alloc: Global, symbols: &'s [Symbol<'a>], limit: u8) -> Answer<'s, 'a>
+    ensures reads { Gives seen result ((readers limit).operand symbols.now) }
+    ensures within { IfOk result (λ x. x.0.depth ≤ limit) }
+{
+    if limit == 0 {
+        return Err(Stop::NoTree);
+    }
+    operand_in(alloc, symbols, limit - 1)
+}
+
+#[cycle(read)]
+#[tactic(auto, unfolding(rst_grammar::specs::Reading::operand_in))]
+fn operand_in<'s, 'a>(alloc: Global, symbols: &'s [Symbol<'a>], below: u8) -> Answer<'s, 'a>
+    ensures reads { Gives seen result (operand_in (readers below) symbols.now) }
+    ensures within { IfOk result (λ x. x.0.depth ≤ below + 1) }
+{
+    let [first, rest @ ..] = symbols else {
+        return Err(Stop::NoTree);
+    };
+    match first {
+        Symbol::Number(number) => number_in(*number, rest),
+        Symbol::Name(name) => named_in(alloc, name, rest, below),
+        Symbol::Terminal(mark) => terminal_in(alloc, *mark, rest, below),
+    }
+}
+
+#[tactic(auto, unfolding(rst_grammar::specs::Reading::number_in))]
+fn number_in<'s, 'a>(number: Literal, rest: &'s [Symbol<'a>]) -> Answer<'s, 'a>
+    ensures reads { Gives seen result (number_in number rest.now) }
+    ensures within { IfOk result (λ x. x.0.depth ≤ 1) }
+{
+    if number.mask != 0 {
+        return Err(Stop::NoTree);
+    }
+    let tree = Expr::Number(number);
+    Ok((Parsed { tree, depth: 1 }, rest))
+}
+
+#[cycle(read)]
+#[tactic(auto, unfolding(rst_grammar::specs::Reading::terminal_in))]
+fn terminal_in<'s, 'a>(
+    alloc: Global,
+    first: Terminal,
+    rest: &'s [Symbol<'a>],
+    below: u8,
+) -> Answer<'s, 'a>
+    ensures reads { Gives seen result (terminal_in (readers below) first rest.now) }
+    ensures within { IfOk result (λ x. x.0.depth ≤ below + 1) }
+{
+    match first {
+        Terminal::OpenParen => paren_in(alloc, rest, below),
+        Terminal::OpenBrace => braces_in(alloc, rest, below),
+        Terminal::SystemSigned => signed_in(alloc, rest, below),
+        Terminal::SystemUnsigned => unsigned_in(alloc, rest, below),
+        _ => unary_in(alloc, first, rest, below),
+    }
+}
+
+#[cycle(read)]
+#[tactic(auto, unfolding(rst_grammar::specs::Reading::paren_in))]
+fn paren_in<'s, 'a>(alloc: Global, rest: &'s [Symbol<'a>], below: u8) -> Answer<'s, 'a>
+    ensures reads { Gives seen result (paren_in (readers below) rest.now) }
+    ensures within { IfOk result (λ x. x.0.depth ≤ below + 1) }
+{
+    let (inner, rest) = full(alloc, rest, below)?;
+    let rest = after(rest, Terminal::CloseParen)?;
+    let depth = inner.depth + 1;
+    let tree = Expr::Paren(Box::new(alloc, inner.tree)?);
+    Ok((Parsed { tree, depth }, rest))
+}
+
+#[cycle(read)]
+#[tactic(auto, unfolding(rst_grammar::specs::Reading::signed_in))]
+fn signed_in<'s, 'a>(alloc: Global, rest: &'s [Symbol<'a>], below: u8) -> Answer<'s, 'a>
+    ensures reads { Gives seen result (signed_in (readers below) rest.now) }
+    ensures within { IfOk result (λ x. x.0.depth ≤ below + 1) }
+{
+    let rest = after(rest, Terminal::OpenParen)?;
+    let (inner, rest) = full(alloc, rest, below)?;
+    let rest = after(rest, Terminal::CloseParen)?;
+    let depth = inner.depth + 1;
+    let tree = Expr::Signed(Box::new(alloc, inner.tree)?);
+    Ok((Parsed { tree, depth }, rest))
+}
+
+#[cycle(read)]
+#[tactic(auto, unfolding(rst_grammar::specs::Reading::unsigned_in))]
+fn unsigned_in<'s, 'a>(alloc: Global, rest: &'s [Symbol<'a>], below: u8) -> Answer<'s, 'a>
+    ensures reads { Gives seen result (unsigned_in (readers below) rest.now) }
+    ensures within { IfOk result (λ x. x.0.depth ≤ below + 1) }
+{
+    let rest = after(rest, Terminal::OpenParen)?;
+    let (inner, rest) = full(alloc, rest, below)?;
+    let rest = after(rest, Terminal::CloseParen)?;
+    let depth = inner.depth + 1;
+    let tree = Expr::Unsigned(Box::new(alloc, inner.tree)?);
+    Ok((Parsed { tree, depth }, rest))
+}
+
+#[cycle(read)]
+#[tactic(auto, unfolding(rst_grammar::specs::Reading::unary_in))]
+fn unary_in<'s, 'a>(
+    alloc: Global,
+    first: Terminal,
+    rest: &'s [Symbol<'a>],
+    below: u8,
+) -> Answer<'s, 'a>
+    ensures reads { Gives seen result (unary_in (readers below) first rest.now) }
+    ensures within { IfOk result (λ x. x.0.depth ≤ below + 1) }
+{
+    let Some(op) = unary_of(first) else {
+        return Err(Stop::NoTree);
+    };
+    let (inner, rest) = operand(alloc, rest, below)?;
+    let depth = inner.depth + 1;
+    let tree = Expr::Unary(op, Box::new(alloc, inner.tree)?);
+    Ok((Parsed { tree, depth }, rest))
+}
+
+#[cycle(read)]
+#[tactic(auto, unfolding(rst_grammar::specs::Reading::named_in))]
+fn named_in<'s, 'a>(
+    alloc: Global,
+    name: &NameText<'a>,
+    rest: &'s [Symbol<'a>],
+    below: u8,
+) -> Answer<'s, 'a>
+    ensures reads { Gives seen result (named_in (readers below) name.now rest.now) }
+    ensures within { IfOk result (λ x. x.0.depth ≤ below + 1) }
+{
+    let [Symbol::Terminal(Terminal::OpenBracket), rest @ ..] = rest else {
+        let tree = Expr::Name(Name::new(alloc, name.as_slice())?);
+        return Ok((Parsed { tree, depth: 1 }, rest));
+    };
+    let (index, rest) = full(alloc, rest, below)?;
+    select_end(alloc, name, index, rest, below)
+}
+
+#[cycle(read)]
+#[tactic(auto, unfolding(rst_grammar::specs::Reading::select_end))]
+fn select_end<'s, 'a>(
+    alloc: Global,
+    name: &NameText<'a>,
+    index: Parsed,
+    rest: &'s [Symbol<'a>],
+    below: u8,
+) -> Answer<'s, 'a>
+    requires { index.depth ≤ below }
+    ensures reads { Gives seen result (select_end (readers below) name.now (plain index.tree) rest.now) }
+    ensures within { IfOk result (λ x. x.0.depth ≤ below + 1) }
+{
+    match rest {
+        [Symbol::Terminal(Terminal::CloseBracket), rest @ ..] => {
+            let depth = index.depth + 1;
+            let name = Name::new(alloc, name.as_slice())?;
+            let tree = Expr::Bit(name, Box::new(alloc, index.tree)?);
+            Ok((Parsed { tree, depth }, rest))
+        }
+        [Symbol::Terminal(Terminal::Colon), rest @ ..] => part_end(alloc, name, index, rest, below),
+        _ => Err(Stop::NoTree),
+    }
+}
+
+#[cycle(read)]
+#[tactic(auto, unfolding(rst_grammar::specs::Reading::part_end))]
+fn part_end<'s, 'a>(
+    alloc: Global,
+    name: &NameText<'a>,
+    high: Parsed,
+    rest: &'s [Symbol<'a>],
+    below: u8,
+) -> Answer<'s, 'a>
+    requires { high.depth ≤ below }
+    ensures reads { Gives seen result (part_end (readers below) name.now (plain high.tree) rest.now) }
+    ensures within { IfOk result (λ x. x.0.depth ≤ below + 1) }
+{
+    let (low, rest) = full(alloc, rest, below)?;
+    let rest = after(rest, Terminal::CloseBracket)?;
+    let depth = high.depth.max(low.depth) + 1;
+    let name = Name::new(alloc, name.as_slice())?;
+    let high = Box::new(alloc, high.tree)?;
+    let tree = Expr::Part(name, high, Box::new(alloc, low.tree)?);
+    Ok((Parsed { tree, depth }, rest))
+}
+
+#[cycle(read)]
+fn binary<'s, 'a>(alloc: Global, symbols: &'s [Symbol<'a>], limit: u8, least: u8) -> Answer<'s, 'a>
+    ensures reads { Gives seen result ((readers limit).binary least symbols.now) }
+    ensures within { IfOk result (λ x. x.0.depth ≤ limit) }
+{
+    if limit == 0 {
+        return Err(Stop::NoTree);
+    }
+    binary_in(alloc, symbols, limit - 1, least)
+}
+
+#[cycle(read)]
+#[tactic(auto, unfolding(rst_grammar::specs::Reading::binary_in))]
+fn binary_in<'s, 'a>(
+    alloc: Global,
+    symbols: &'s [Symbol<'a>],
+    below: u8,
+    least: u8,
+) -> Answer<'s, 'a>
+    ensures reads { Gives seen result (binary_in (readers below) below least symbols.now) }
+    ensures within { IfOk result (λ x. x.0.depth ≤ below + 1) }
+{
+    let (mut left, mut rest) = operand_in(alloc, symbols, below)?;
+    for _ in 0..u32::from(below) + 1 {
+        let Some((op, after)) = operator_at(rest, least) else {
+            return Ok((left, rest));
+        };
+        let (next, after) = with_right(alloc, op, left, after, below)?;
+        left = next;
+        rest = after;
+    }
+    Err(Stop::NoTree)
+}
+
+// A binary operator over its operands.
+fn binary_tree(alloc: Global, op: BinaryOp, left: Expr, right: Expr) -> Result<Expr, AllocError>
+    ensures { IfOk result (λ e. plain e ≡ Binary op (plain left) (plain right)) }
+{
+    let left = Box::new(alloc, left)?;
+    Ok(Expr::Binary(op, left, Box::new(alloc, right)?))
+}
+
+#[cycle(read)]
+#[tactic(auto, unfolding(rst_grammar::specs::Reading::with_right))]
+fn with_right<'s, 'a>(
+    alloc: Global,
+    op: BinaryOp,
+    left: Parsed,
+    rest: &'s [Symbol<'a>],
+    below: u8,
+) -> Answer<'s, 'a>
+    ensures reads { Gives seen result (with_right (readers below) below op (plain left.tree) rest.now) }
+    ensures within { IfOk result (λ x. x.0.depth ≤ below + 1) }
+{
+    if left.depth > u32::from(below) {
+        return Err(Stop::NoTree);
+    }
+    let (right, rest) = binary(alloc, rest, below, level(op) + 1)?;
+    let depth = left.depth.max(right.depth) + 1;
+    let tree = binary_tree(alloc, op, left.tree, right.tree)?;
+    Ok((Parsed { tree, depth }, rest))
+}
+
+#[cycle(read)]
+#[tactic(auto, unfolding(rst_grammar::specs::Reading::full_in, rst_grammar::specs::Reading::choice_end))]
+fn full_in<'s, 'a>(alloc: Global, symbols: &'s [Symbol<'a>], below: u8) -> Answer<'s, 'a>
+    ensures reads { Gives seen result (full_in (readers below) below symbols.now) }
+    ensures within { IfOk result (λ x. x.0.depth ≤ below + 1) }
+{
+    let (test, rest) = binary_in(alloc, symbols, below, 1)?;
+    let [Symbol::Terminal(Terminal::Question), rest @ ..] = rest else {
+        return Ok((test, rest));
+    };
+    if test.depth > u32::from(below) {
+        return Err(Stop::NoTree);
+    }
+    choice_in(alloc, test, rest, below)
+}
+
+#[cycle(read)]
+#[tactic(auto, unfolding(rst_grammar::specs::Reading::choice_in))]
+fn choice_in<'s, 'a>(
+    alloc: Global,
+    test: Parsed,
+    rest: &'s [Symbol<'a>],
+    below: u8,
+) -> Answer<'s, 'a>
+    requires { test.depth ≤ below }
+    ensures reads { Gives seen result (choice_in (readers below) (plain test.tree) rest.now) }
+    ensures within { IfOk result (λ x. x.0.depth ≤ below + 1) }
+{
+    let (yes, rest) = full(alloc, rest, below)?;
+    let rest = after(rest, Terminal::Colon)?;
+    let (no, rest) = full(alloc, rest, below)?;
+    let depth = test.depth.max(yes.depth.max(no.depth)) + 1;
+    let test = Box::new(alloc, test.tree)?;
+    let yes = Box::new(alloc, yes.tree)?;
+    let tree = Expr::Choose(test, yes, Box::new(alloc, no.tree)?);
+    Ok((Parsed { tree, depth }, rest))
+}
+
+#[cycle(read)]
+#[tactic(auto, unfolding(rst_grammar::specs::Reading::braces_in, rst_grammar::specs::Reading::braces_end))]
+fn braces_in<'s, 'a>(alloc: Global, rest: &'s [Symbol<'a>], below: u8) -> Answer<'s, 'a>
+    ensures reads { Gives seen result (braces_in (readers below) rest.now) }
+    ensures within { IfOk result (λ x. x.0.depth ≤ below + 1) }
+{
+    let (first, rest) = full(alloc, rest, below)?;
+    match rest {
+        [Symbol::Terminal(Terminal::OpenBrace), rest @ ..] => repeat_in(alloc, first, rest, below),
+        _ => join_in(alloc, first, rest, below),
+    }
+}
+
+// A join of these parts.
+#[tactic(auto, using(rst_tree::proofs::Rows::rows))]
+fn joined(parts: Vec<Expr>) -> Expr
+    ensures { plain result ≡ Join (plain_all parts.items) }
+{
+    Expr::Join(parts)
+}
+
+// These parts, this many times.
+fn repeated(alloc: Global, count: Expr, parts: Vec<Expr>) -> Result<Expr, AllocError>
+    ensures { IfOk result (λ e. plain e ≡ Repeat (plain count) (plain_all parts.items)) }
+{
+    let count = Box::new(alloc, count)?;
+    Ok(Expr::Repeat(count, parts))
+}
+
+#[cycle(read)]
+#[tactic(auto, unfolding(rst_grammar::specs::Reading::join_in))]
+fn join_in<'s, 'a>(
+    alloc: Global,
+    first: Parsed,
+    rest: &'s [Symbol<'a>],
+    below: u8,
+) -> Answer<'s, 'a>
+    requires { first.depth ≤ below }
+    ensures reads { Gives seen result (join_in (readers below) (plain first.tree) rest.now) }
+    ensures within { IfOk result (λ x. x.0.depth ≤ below + 1) }
+{
+    let (all, rest) = list_from(alloc, first, rest, below)?;
+    let rest = after(rest, Terminal::CloseBrace)?;
+    let depth = all.depth + 1;
+    let tree = joined(all.trees);
+    Ok((Parsed { tree, depth }, rest))
+}
+
+#[cycle(read)]
+#[tactic(auto, unfolding(rst_grammar::specs::Reading::repeat_in))]
+fn repeat_in<'s, 'a>(
+    alloc: Global,
+    count: Parsed,
+    rest: &'s [Symbol<'a>],
+    below: u8,
+) -> Answer<'s, 'a>
+    requires { count.depth ≤ below }
+    ensures reads { Gives seen result (repeat_in (readers below) (plain count.tree) rest.now) }
+    ensures within { IfOk result (λ x. x.0.depth ≤ below + 1) }
+{
+    let (first, rest) = full(alloc, rest, below)?;
+    let (all, rest) = list_from(alloc, first, rest, below)?;
+    let rest = after(rest, Terminal::CloseBrace)?;
+    let rest = after(rest, Terminal::CloseBrace)?;
+    let depth = count.depth.max(all.depth) + 1;
+    let tree = repeated(alloc, count.tree, all.trees)?;
+    Ok((Parsed { tree, depth }, rest))
+}
+
+#[cycle(read)]
+fn list_from<'s, 'a>(
+    alloc: Global,
+    first: Parsed,
+    rest: &'s [Symbol<'a>],
+    below: u8,
+) -> Result<(Many, &'s [Symbol<'a>]), Stop>
+    requires { first.depth ≤ below }
+    ensures reads { Gives seen_all result (list_from (readers below) (plain first.tree) rest.now) }
+    ensures within { IfOk result (λ x. x.0.depth ≤ below) }
+{
+    let turns = rest.len();
+    let (mut all, mut rest) = alone(alloc, first, rest)?;
+    for _ in 0..turns {
+        let Some(after) = after_comma(rest) else {
+            return Ok((all, rest));
+        };
+        let (next, after) = full(alloc, after, below)?;
+        all = and(all, next)?;
+        rest = after;
+    }
+    Ok((all, rest))
+}
+
+// What follows a comma.
+fn after_comma<'s, 'a>(symbols: &'s [Symbol<'a>]) -> Option<&'s [Symbol<'a>]>
+    ensures { option_map (λ x. x.now) result ≡ after Comma symbols.now }
+{
+    match symbols {
+        [Symbol::Terminal(Terminal::Comma), rest @ ..] => Some(rest),
+        _ => None,
+    }
+}
+
+// A list of one, and the symbols behind it.
+fn alone<'s, 'a>(
+    alloc: Global,
+    first: Parsed,
+    rest: &'s [Symbol<'a>],
+) -> Result<(Many, &'s [Symbol<'a>]), AllocError>
+    ensures trees { IfOk result (λ x. plain_all x.0.trees.items ≡ more (plain first.tree) end) }
+    ensures depth { IfOk result (λ x. x.0.depth ≡ first.depth) }
+    ensures behind { IfOk result (λ x. x.1.now ≡ rest.now) }
+{
+    let mut trees = Vec::new(alloc);
+    let depth = first.depth;
+    trees.push(first.tree)?;
+    Ok((Many { trees, depth }, rest))
+}
+
+// A list with one more behind it.
+#[tactic(auto, using(crate::proofs::Rows::pushes))]
+fn and(all: Many, next: Parsed) -> Result<Many, AllocError>
+    ensures { IfOk result (λ m. (plain_all m.trees.items ≡ appended (plain_all all.trees.items) (plain next.tree)) × (m.depth ≡ max all.depth next.depth)) }
+{
+    let mut trees = all.trees;
+    let depth = all.depth.max(next.depth);
+    trees.push(next.tree)?;
+    Ok(Many { trees, depth })
+}
+
+/// The expression that the symbols spell, of a height of at most 200.
+pub fn expression<'a>(alloc: Global, symbols: &[Symbol<'a>]) -> Result<Expr, Stop>
+    // What is read is spelled so.
+    ensures found { IfOk result (λ e. Spells (plain e) symbols.now × (height (plain e) ≤ 200)) }
+    // What is spelled so is read, unless memory runs out.
+    ensures only { (e : Tree) → Spells e symbols.now → height e ≤ 200 → Gives plain result (Some e) }
+{
+    let (found, rest) = full(alloc, symbols, 200)?;
+    if !rest.is_empty() {
+        return Err(Stop::NoTree);
+    }
+    Ok(found.tree)
+}
