@@ -5,3 +5,5 @@
 mod bench;
 #[cfg(test)]
 mod check;
+#[cfg(test)]
+mod solver;
