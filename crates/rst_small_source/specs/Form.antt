@@ -1,4 +1,4 @@
--- The conditions of form S on a source.
+-- The conditions of the small form on a source.
 use Rattle.std.specs.Prelude.{ℕ, ◌≤◌, Bool, true, false, not, ◌&&◌, ◌||◌, List, [], ◌∷◌, length, map, bytes_eq, nat_le, IsTrue}
 use Rattle.std.specs.List.{list_any, list_all}
 use Rattle.rst_small_tree.specs.declared.tree.Port.{Port}

@@ -1,4 +1,4 @@
--- What a source of form S means: a clocked machine (IEEE 1364-2001, sections 5 and 9), and its three-valued
+-- What a source of the small form means: a clocked machine (IEEE 1364-2001, sections 5 and 9), and its three-valued
 -- reading. Both come from one definition over the operations on a bit.
 use Rattle.std.specs.Prelude.{ℕ, Bool, true, false, List, [], ◌∷◌, length, map, bytes_eq, if◌then◌else◌}
 use Rattle.rst_gate.specs.Machine.{Machine}

@@ -5,7 +5,7 @@ use rst_outside::{Name, PortBits};
 use rst_small_tree::Source;
 use std::marker::Model;
 
-/// A source of form S under its clock, ready to be run.
+/// A source of the small form under its clock, ready to be run.
 #[derive(Drop)]
 pub struct Design {
     source: Source,

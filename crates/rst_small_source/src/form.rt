@@ -1,4 +1,4 @@
-//! The conditions of form S.
+//! The conditions of the small form.
 
 ghost use Rattle.std.specs.Prelude.{◌≡◌, bytes_eq, ◌&&◌, nat_le, length, map, IfOk};
 ghost use Rattle.std.specs.List.{list_any, list_all};

@@ -1,4 +1,4 @@
-//! Sources of form S: the conditions on them, the machine that they mean, and their three-valued run.
+//! Sources of the small form: the conditions on them, the machine that they mean, and their three-valued run.
 #![tactic(auto)]
 
 mod design;

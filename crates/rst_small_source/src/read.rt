@@ -53,7 +53,7 @@ fn design(
     Ok(Some(Design::new(source, clock, input_ports, register_ports, rules)))
 }
 
-/// The design of a text of form S, or `None` where the text isn't of form S.
+/// The design of a text of the small form, or `None` where the text isn't of the small form.
 ///
 /// `top` is the module's name, and `clock` the name of its clock. The text has at most 1,048,576
 /// bytes. `NoMemory` comes only where memory runs out.

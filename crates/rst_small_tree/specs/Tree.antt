@@ -1,4 +1,4 @@
--- The tree of a source of form S, and the symbols that it is written as.
+-- The tree of a source of the small form, and the symbols that it is written as.
 use Rattle.std.specs.Prelude.{◌≡◌, ℕ, ◌≤◌, Bool, true, false, List, [], ◌∷◌, ◌++◌, length}
 use Rattle.std.specs.List.{flat_map}
 use Rattle.rst_small_tree.specs.declared.symbol.Symbol.{Symbol}

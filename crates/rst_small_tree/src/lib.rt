@@ -1,4 +1,4 @@
-//! The syntax of form S: one module with ports of one bit and clocked blocks, its tree, and the
+//! The syntax of the small form: one module with ports of one bit and clocked blocks, its tree, and the
 //! reader from symbols to the tree.
 #![tactic(auto)]
 

@@ -1,11 +1,11 @@
-//! Symbols: the tokens of form S by what they mean to the grammar.
+//! Symbols: the tokens of the small form by what they mean to the grammar.
 
 ghost use Rattle.std.specs.Prelude.{◌≡◌};
 ghost use Rattle.rst_small_tree.specs.Marks.{number};
 
 use rst_outside::Name;
 
-/// A keyword or a mark of form S.
+/// A keyword or a mark of the small form.
 #[derive(Clone, Copy, Debug, PartialEq, Eq)]
 pub enum Mark {
     Module,
@@ -35,7 +35,7 @@ impl Mark {
     }
 }
 
-/// A token of form S.
+/// A token of the small form.
 #[derive(Drop)]
 pub enum Symbol {
     Mark(Mark),

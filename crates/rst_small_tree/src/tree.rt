@@ -1,4 +1,4 @@
-//! The tree of form S.
+//! The tree of the small form.
 
 use rst_outside::Name;
 
