@@ -6,3 +6,4 @@ pub mod TakesStatements
 pub mod Terminals
 pub mod Sound
 pub mod SoundTargets
+pub mod SoundStatements
