@@ -7,3 +7,7 @@ pub mod Terminals
 pub mod Sound
 pub mod SoundTargets
 pub mod SoundStatements
+pub mod Exact
+pub mod ExactLists
+pub mod ExactDeclarations
+pub mod ExactLinks

@@ -33,15 +33,19 @@ pub data OrComma (ts : List Symbol) : Type 0 where
   or : quoted terminal.Or ts → OrComma ts
   comma : quoted terminal.Comma ts → OrComma ts
 
--- "@" "*" | "@" "(" "*" ")"
+-- "*" | "(" "*" ")"
 pub data SpellsAny (ts : List Symbol) : Type 0 where
-  star : (quoted terminal.At ⊗ quoted terminal.Star) ts → SpellsAny ts
-  star_inside : (quoted terminal.At ⊗ quoted terminal.OpenParen ⊗ quoted terminal.Star ⊗ quoted terminal.CloseParen) ts → SpellsAny ts
+  star : quoted terminal.Star ts → SpellsAny ts
+  star_inside : (quoted terminal.OpenParen ⊗ quoted terminal.Star ⊗ quoted terminal.CloseParen) ts → SpellsAny ts
+
+-- what stands behind "@": "*" | "(" "*" ")" | "(" event { ( "or" | "," ) event } ")"
+abbrev pub SpellsControl : ProductionOf PlainEvents
+SpellsControl Any ts = SpellsAny ts
+SpellsControl (OneOf es) ts = (quoted terminal.OpenParen ⊗ Separated OrComma SpellsEvent es ⊗ quoted terminal.CloseParen) ts
 
 -- events = "@" "*" | "@" "(" "*" ")" | "@" "(" event { ( "or" | "," ) event } ")"
 abbrev pub SpellsEvents : ProductionOf PlainEvents
-SpellsEvents Any ts = SpellsAny ts
-SpellsEvents (OneOf es) ts = (quoted terminal.At ⊗ quoted terminal.OpenParen ⊗ Separated OrComma SpellsEvent es ⊗ quoted terminal.CloseParen) ts
+SpellsEvents e ts = (quoted terminal.At ⊗ SpellsControl e) ts
 
 abbrev pub SpellsItem : ProductionOf PlainItem
 -- pport ";"

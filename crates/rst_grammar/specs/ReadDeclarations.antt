@@ -57,7 +57,7 @@ params_of local x = map (param_of local x.0 x.1.0) x.1.1
 
 -- "parameter" or, of local ones, "localparam", and the parameters behind it
 unfoldable pub params_in : Bool → ℕ → ReaderOf (List PlainParam)
-params_in local limit = behind (parameter_word local) (mapped (params_of local) (both (flag terminal.Signed) (both (optional terminal.OpenBracket (range_in limit)) (settings_in limit))))
+params_in local limit = mapped (params_of local) (behind (parameter_word local) (both (flag terminal.Signed) (both (optional terminal.OpenBracket (range_in limit)) (settings_in limit))))
 
 -- "=" and a value behind a wire, nothing behind a reg
 unfoldable pub net_value_in : Bool → ℕ → ReaderOf (Option Tree)
@@ -78,4 +78,4 @@ net_decl_of reg x = record { reg = reg; signed = x.0; range = x.1.0; names = x.1
 
 -- "wire" or "reg", and all up to ";"
 unfoldable pub net_decl_in : Bool → ℕ → ReaderOf PlainNetDecl
-net_decl_in reg limit = behind (net_word reg) (mapped (net_decl_of reg) (both (flag terminal.Signed) (both (optional terminal.OpenBracket (range_in limit)) (up_to terminal.Semicolon (net_names_in reg limit)))))
+net_decl_in reg limit = mapped (net_decl_of reg) (behind (net_word reg) (both (flag terminal.Signed) (both (optional terminal.OpenBracket (range_in limit)) (up_to terminal.Semicolon (net_names_in reg limit)))))
