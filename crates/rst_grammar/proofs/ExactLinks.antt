@@ -1,5 +1,5 @@
 -- The readers of links and instances are exact.
-use Rattle.std.proofs.Common.{◌≡◌, ℕ, zero, suc, ◌≤◌, max, Bool, true, false, List, [], ◌∷◌, length, Option, Some, None, refl, sym, ap, subst, ◌∙◌, arith}
+use Rattle.std.proofs.Common.{◌≡◌, ℕ, zero, suc, ◌≤◌, max, Bool, true, false, List, [], ◌∷◌, ◌++◌, length, Option, Some, None, refl, sym, ap, subst, ◌∙◌, arith}
 use Rattle.rst_tree.specs.Trees.{Tree, Text, height}
 use Rattle.rst_tree.specs.Modules.{PlainLink, PlainLinks, Ordered, Named, PlainCopied, PlainInstance, tallest, height_if, height_of_link, height_of_links, height_of_copied}
 use Rattle.rst_grammar.specs.declared.symbol.Terminal.{Terminal}
@@ -170,7 +170,8 @@ module _ (limit : ℕ) where
   ordered_links [] ts rest f more = absurd f.says
   ordered_links (None ∷ []) ts rest f more = absurd (more refl)
   ordered_links (Some e ∷ []) ts rest f more = record { text = f.text; parts = f.parts; says = f.says }
-  ordered_links (x ∷ y ∷ es) ts rest f more = record { text = f.text; parts = f.parts; says = f.says }
+  ordered_links (None ∷ y ∷ es) ts rest f more = record { text = f.text; parts = f.parts; says = f.says }
+  ordered_links (Some e ∷ y ∷ es) ts rest f more = record { text = f.text; parts = f.parts; says = f.says }
 
   abbrev LinksRead : List Symbol → PlainLinks × List Symbol → Type 0
   LinksRead ts x = Front (SpellsLinks x.0) ts x.1 × (height_of_links x.0 ≤ limit)
@@ -218,6 +219,7 @@ module _ (limit : ℕ) where
   dot_ordered rest = rw (dot_refused limit rest) refl
 
   no_close_ordered : (es : List (Option Tree)) (ts rest : List Symbol) → ordered_in limit ts ≡ Some (es, rest) → (OneEmpty es → ⊥) → Without terminal.CloseParen ts
+  unfolding OneEmpty
   no_close_ordered es ts rest r more = by_case (after terminal.CloseParen ts) refl
     where
       made : List Symbol → List (Option Tree) × List Symbol
@@ -234,7 +236,7 @@ module _ (limit : ℕ) where
           absurd (more (ap (λ (y : List (Option Tree) × List Symbol). y.0) same))
 
   ordered_takes : (es : List (Option Tree)) (ts rest : List Symbol) → Front (Listed (Optional Spells) es) ts rest → (OneEmpty es → ⊥) → tallest (height_if height) es ≤ limit → AtClose rest → links_in limit ts ≡ Some (Ordered es, rest)
-  unfolding mapped ordered_in
+  unfolding mapped ordered_in comma
   ordered_takes es ts rest f more small may =
       let read : ordered_in limit ts ≡ Some (es, rest) = (ordered_exact limit).takes es ts rest f small (at_close may.0 may.1, close_no_comma) in
       ordered_next ts (no_close_ordered es ts rest read more) (without terminal.Dot (ordered_in limit) dot_ordered ts (es, rest) read) ∙ rw read refl
@@ -245,3 +247,99 @@ module _ (limit : ℕ) where
   pub named_next : (ts m : List Symbol) → ts ≡ symbol.Terminal terminal.Dot ∷ m → links_in limit ts ≡ mapped Named (separated comma (link_in limit)) ts
   unfolding links_in
   named_next ts m e = rw e refl
+
+  named_takes : (ls : List PlainLink) (ts rest : List Symbol) → Front (Listed SpellsLink ls) ts rest → tallest height_of_link ls ≤ limit → AtClose rest → links_in limit ts ≡ Some (Named ls, rest)
+  unfolding mapped named_in comma
+  named_takes [] ts rest f small may = absurd f.says
+  named_takes (l ∷ ls) ts rest f small may =
+      let a = split {P = SpellsLink l} {Q = MoreSeparated (quoted terminal.Comma) SpellsLink ls} f in
+      let b = split {P = quoted terminal.Dot} {Q = named l.name ⊗ quoted terminal.OpenParen ⊗ Optional Spells l.value ⊗ quoted terminal.CloseParen} a.left in
+      let read : named_in limit ts ≡ Some (l ∷ ls, rest) = (named_exact limit).takes (l ∷ ls) ts rest f small (tt, ap comma may.1) in
+      named_next ts b.mid (one_is b.left) ∙ rw read refl
+
+  none_taken : (ts : List Symbol) → AtClose ts → links_in limit ts ≡ Some (Ordered [], ts)
+  unfolding links_in
+  none_taken ts may = rw may.1 refl
+
+  links_takes : (x : PlainLinks) (ts rest : List Symbol) → Front (SpellsLinks x) ts rest → height_of_links x ≤ limit → AtClose rest → links_in limit ts ≡ Some (x, rest)
+  unfolding OneEmpty
+  links_takes (Ordered []) ts rest f small may =
+      let is : Front Nothing ts rest = record { text = f.text; parts = f.parts; says = f.says } in
+      ap (links_in limit) (nothing_is is) ∙ none_taken rest may
+  links_takes (Ordered (None ∷ [])) ts rest f small may = absurd f.says
+  links_takes (Ordered (Some e ∷ [])) ts rest f small may = ordered_takes (Some e ∷ []) ts rest (record { text = f.text; parts = f.parts; says = f.says }) (one_some e []) small may
+  links_takes (Ordered (None ∷ y ∷ es)) ts rest f small may = ordered_takes (None ∷ y ∷ es) ts rest (record { text = f.text; parts = f.parts; says = f.says }) (one_more None y es) small may
+  links_takes (Ordered (Some e ∷ y ∷ es)) ts rest f small may = ordered_takes (Some e ∷ y ∷ es) ts rest (record { text = f.text; parts = f.parts; says = f.says }) (one_more (Some e) y es) small may
+  links_takes (Named ls) ts rest f small may = named_takes ls ts rest (record { text = f.text; parts = f.parts; says = f.says }) small may
+
+  links_exact : IsExact SpellsLinks height_of_links limit (links_in limit) AtClose
+  links_exact = record { sound = links_sound; takes = links_takes }
+
+-- ---- instances
+
+-- "(" links ")"
+abbrev InParens : PlainLinks → List Symbol → Type 0
+InParens l = quoted terminal.OpenParen ⊗ SpellsLinks l ⊗ quoted terminal.CloseParen
+
+parens_exact : (limit : ℕ) → IsExact InParens height_of_links limit (parens_in limit) Anything
+unfolding parens_in
+parens_exact limit = behind_exact terminal.OpenParen (up_to_exact terminal.CloseParen (λ rest. (rest, refl)) (links_exact limit))
+
+module _ (limit : ℕ) where
+  abbrev ParamLinksRead : List Symbol → PlainLinks × List Symbol → Type 0
+  ParamLinksRead ts x = Front (SpellsParamLinks x.0) ts x.1 × (height_of_links x.0 ≤ limit)
+
+  param_links_found : (ts : List Symbol) (x : PlainLinks × List Symbol) (o : Option (List Symbol)) → after terminal.Hash ts ≡ o → cases o (Some (Ordered [], ts)) (λ rest. parens_in limit rest) ≡ Some x → ParamLinksRead ts x
+  param_links_found ts x None is r =
+      let made : PlainLinks × List Symbol = (Ordered [], ts) in
+      let f = nothing_front ts in
+      subst (ParamLinksRead ts) (some_is made x r) (record { text = f.text; parts = f.parts; says = no_links refl f.says }, omega arith)
+  param_links_found ts x (Some rest) is r =
+      let inner = (parens_exact limit).sound rest x r in
+      let f : Front (quoted terminal.Hash ⊗ InParens x.0) ts x.1 = joined (after_front terminal.Hash ts rest is) inner.0 in
+      (record { text = f.text; parts = f.parts; says = some_links f.says }, inner.1)
+
+  param_links_sound : (ts : List Symbol) (x : PlainLinks × List Symbol) → param_links_in limit ts ≡ Some x → ParamLinksRead ts x
+  unfolding param_links_in
+  param_links_sound ts x r = param_links_found ts x (after terminal.Hash ts) refl r
+
+  param_links_taken : (x : PlainLinks) (text ts rest : List Symbol) → SpellsParamLinks x text → ts ≡ text ++ rest → height_of_links x ≤ limit → Without terminal.Hash rest → param_links_in limit ts ≡ Some (x, rest)
+  unfolding param_links_in
+  param_links_taken x text ts rest (no_links empty p) parts small may =
+      let is : Front Nothing ts rest = record { text = text; parts = parts; says = p } in
+      rw (nothing_is is, may, empty) refl
+  param_links_taken x text ts rest (some_links p) parts small may =
+      let f : Front (quoted terminal.Hash ⊗ InParens x) ts rest = record { text = text; parts = parts; says = p } in
+      let a = split {P = quoted terminal.Hash} {Q = InParens x} f in
+      rw (is_after terminal.Hash ts a.mid (one_is a.left)) ((parens_exact limit).takes x a.mid rest a.right small tt)
+
+  param_links_exact : IsExact SpellsParamLinks height_of_links limit (param_links_in limit) (Without terminal.Hash)
+  param_links_exact = record { sound = param_links_sound; takes = λ x ts rest f small may. param_links_taken x f.text ts rest f.says f.parts small may }
+
+  copied_exact : IsExact SpellsCopied height_of_copied limit (copied_in limit) Anything
+  unfolding copied_in
+  copied_exact =
+      let two = both_exact (name_exact limit) (parens_exact limit) (λ ts y r. tt) in
+      mapped_exact copied_of two (λ x ts p small. (p, omega (arith, small))) (λ c ts p small. ((c.name, c.ports), refl, p, omega (arith, small)))
+
+  copies_exact : IsExact (Listed SpellsCopied) (tallest height_of_copied) limit (copies_in limit) (λ rest. Anything rest × (comma rest ≡ None))
+  unfolding copies_in
+  copies_exact = separated_exact copied_exact (comma_separator (λ rest y r. tt))
+
+  abbrev copies_end : ReaderOf (List PlainCopied)
+  copies_end = up_to terminal.Semicolon (copies_in limit)
+
+  copies_end_exact : IsExact (λ cs. Listed SpellsCopied cs ⊗ quoted terminal.Semicolon) (tallest height_of_copied) limit copies_end Anything
+  unfolding comma
+  copies_end_exact = up_to_exact terminal.Semicolon (λ rest. (tt, refl)) copies_exact
+
+  links_before_copies : (ts : List Symbol) (y : List PlainCopied × List Symbol) → copies_end ts ≡ Some y → Without terminal.Hash ts
+  unfolding up_to copies_in copied_in separated mapped both name_in
+  links_before_copies ts y r = without terminal.Hash copies_end (λ rest. refl) ts y r
+
+  pub instance_exact : IsExact SpellsInstance (λ i. max (height_of_links i.params) (tallest height_of_copied i.copies)) limit (instance_in limit) Anything
+  unfolding instance_in
+  instance_exact =
+      let two = both_exact param_links_exact copies_end_exact links_before_copies in
+      let all = both_exact (name_exact limit) two (λ ts y r. tt) in
+      mapped_exact instance_of all (λ x ts p small. (p, omega (arith, small))) (λ i ts p small. ((i.of_module, (i.params, i.copies)), refl, p, omega (arith, small)))

@@ -101,7 +101,7 @@ module _ {A : Type 0} {P : A → List Symbol → Type 0} {size : A → ℕ} {lim
   pub separated_exact : IsExact (Separated Separator P) (tallest size) limit (separated next one) (λ rest. May rest × (next rest ≡ None))
   separated_exact = record { sound = list_sound; takes = list_takes }
 
-quoted_shorter : (t : Terminal) (ts rest : List Symbol) → Front (quoted t) ts rest → length rest < length ts
+pub quoted_shorter : (t : Terminal) (ts rest : List Symbol) → Front (quoted t) ts rest → length rest < length ts
 quoted_shorter t ts rest f = omega (arith, ap length (one_is f))
 
 -- a comma

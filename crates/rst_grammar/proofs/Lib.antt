@@ -11,3 +11,5 @@ pub mod Exact
 pub mod ExactLists
 pub mod ExactDeclarations
 pub mod ExactLinks
+pub mod ExactItems
+pub mod ExactModules
