@@ -1,16 +1,15 @@
 -- A reader is exact where it reads just what a production spells. Exact readers are joined to exact readers.
-use Rattle.std.proofs.Common.{◌≡◌, ℕ, zero, suc, ◌<◌, ◌≤◌, max, Bool, true, false, List, [], ◌∷◌, ◌++◌, length, Option, Some, None, refl, sym, ap, subst, ◌∙◌, arith}
+use Rattle.std.proofs.Common.{◌≡◌, ℕ, ◌≤◌, max, Bool, true, false, List, [], ◌∷◌, Option, Some, None, refl, sym, ap, subst, ◌∙◌, arith}
 use Rattle.std.proofs.lemmas.Bool.{eq-eqb}
-use Rattle.rst_tree.specs.Modules.{tallest, height_if}
+use Rattle.rst_tree.specs.Modules.{height_if}
 use Rattle.rst_grammar.specs.declared.symbol.Terminal.{Terminal}
-use Rattle.rst_grammar.specs.declared.symbol.Terminal.TheVariants as terminal
 use Rattle.rst_grammar.specs.declared.symbol.Symbol.{Symbol}
 use Rattle.rst_grammar.specs.declared.symbol.Symbol.TheVariants as symbol
-use Rattle.rst_grammar.specs.Says.{Nothing, One, ◌⊗◌, quoted, named}
-use Rattle.rst_grammar.specs.Productions.{ProductionOf, Optional, Flag, Repeated, MoreSeparated, Separated}
+use Rattle.rst_grammar.specs.Says.{Nothing, ◌⊗◌, quoted, named}
+use Rattle.rst_grammar.specs.Productions.{Optional, Flag}
 use Rattle.rst_grammar.specs.Reading.{◌>>=◌, cases, after, number_of}
-use Rattle.rst_grammar.specs.ReadParts.{ReaderOf, name_in, mapped, both, behind, up_to, optional, flag, more_separated, separated, comma, comma_before_name, until}
-use Rattle.rst_grammar.proofs.Fronts.{Front, split, joined, one_is, one_front, nothing_is, nothing_front, no_longer}
+use Rattle.rst_grammar.specs.ReadParts.{ReaderOf, name_in, mapped, both, behind, up_to, optional, flag}
+use Rattle.rst_grammar.proofs.Fronts.{Front, split, joined, one_is, one_front, nothing_is, nothing_front}
 use Rattle.rst_grammar.proofs.Tools.{bind_some}
 use Rattle.rst_grammar.proofs.Terminals.{after_is}
 use Rattle.rst_grammar.proofs.Sound.{some_is, after_front}

@@ -1,8 +1,7 @@
 -- The readers of declarations are exact.
-use Rattle.std.proofs.Common.{◌≡◌, ℕ, ◌≤◌, max, Bool, true, false, List, [], ◌∷◌, ◌++◌, map, Option, Some, None, refl, sym, ap, subst, ◌∙◌, arith}
+use Rattle.std.proofs.Common.{◌≡◌, ℕ, ◌≤◌, Bool, true, false, List, [], ◌∷◌, ◌++◌, map, Option, Some, None, refl, sym, ap, subst, arith}
 use Rattle.rst_tree.specs.Trees.{Tree, Text, height}
-use Rattle.rst_tree.specs.Modules.{PlainRange, PlainPortDecl, PlainParam, PlainNetName, PlainNetDecl, tallest, height_if, height_of_range, height_of_port_decl, height_of_param, height_of_net_name, height_of_net_decl}
-use Rattle.rst_grammar.specs.declared.symbol.Terminal.{Terminal}
+use Rattle.rst_tree.specs.Modules.{PlainRange, PlainParam, PlainNetName, tallest, height_if, height_of_range, height_of_port_decl, height_of_param, height_of_net_name, height_of_net_decl}
 use Rattle.rst_grammar.specs.declared.symbol.Terminal.TheVariants as terminal
 use Rattle.rst_grammar.specs.declared.symbol.Symbol.{Symbol}
 use Rattle.rst_grammar.specs.declared.symbol.Symbol.TheVariants as symbol
@@ -10,14 +9,13 @@ use Rattle.rst_grammar.specs.Says.{Nothing, ◌⊗◌, quoted, named}
 use Rattle.rst_grammar.specs.Expressions.{Spells}
 use Rattle.rst_grammar.specs.Productions.{Optional, Flag, Listed}
 use Rattle.rst_grammar.specs.Declarations.{SpellsRange, direction, MayBeWire, no_kind, wire, SpellsKind, SpellsPortDecl, Setting, SpellsSetting, parameter_word, param_of, SpellsParams, net_word, SpellsNetValue, SpellsNetName, SpellsNetDecl}
-use Rattle.rst_grammar.specs.Reading.{after, readers}
-use Rattle.rst_grammar.specs.ReadParts.{ReaderOf, name_in, mapped, both, behind, up_to, optional, flag, separated, comma, comma_before_name}
+use Rattle.rst_grammar.specs.ReadParts.{ReaderOf, name_in, mapped, both, up_to, optional, flag, separated, comma, comma_before_name}
 use Rattle.rst_grammar.specs.ReadDeclarations.{expr_in, range_of, range_in, direction_in, kind_in, names_in, port_decl_of, port_decl_in, setting_of, setting_in, settings_in, params_of, params_in, net_value_in, net_name_of, net_name_in, net_names_in, net_decl_of, net_decl_in}
-use Rattle.rst_grammar.proofs.Fronts.{Front, split, joined, one_is, one_front, nothing_is, nothing_front}
+use Rattle.rst_grammar.proofs.Fronts.{Front, one_is, one_front, nothing_is, nothing_front}
 use Rattle.rst_grammar.proofs.Tools.{Follows, colon_follows, close_bracket_follows, comma_follows, semicolon_follows}
 use Rattle.rst_grammar.proofs.Takes.{full_takes}
 use Rattle.rst_grammar.proofs.Sound.{readers_sound, some_is}
-use Rattle.rst_grammar.proofs.Exact.{IsExact, Anything, Without, without, before_behind, name_exact, name_is, flag_exact, behind_exact, behind_is, up_to_exact, both_exact, mapped_exact, same_exact, mapped_reads, both_reads, optional_exact}
+use Rattle.rst_grammar.proofs.Exact.{IsExact, Anything, Without, without, before_behind, name_exact, name_is, flag_exact, behind_exact, up_to_exact, both_exact, mapped_exact, same_exact, mapped_reads, both_reads, optional_exact}
 use Rattle.rst_grammar.proofs.ExactLists.{separated_exact, comma_separator, name_separator}
 
 -- ---- expressions and ranges
@@ -216,8 +214,8 @@ module _ (limit : ℕ) where
       mapped_exact (params_of local) all
       (λ x ts p small. (record { signed = x.0; range = x.1.0; settings = x.1.1; all = refl; spelled = p }, params_low limit local x.0 x.1.0 x.1.1 (omega (arith, small)) (omega (arith, small))))
       (λ ps ts p small.
-          let low : tallest height_of_param (map (param_of local p.signed p.range) p.settings) ≤ limit = subst (λ (qs : List PlainParam). tallest height_of_param qs ≤ limit) p.all small in
-          ((p.signed, (p.range, p.settings)), sym p.all, p.spelled, omega (arith, range_low limit local p.signed p.range p.settings p.spelled.right.right.second p.spelled.right.right.right low, settings_low limit local p.signed p.range p.settings low)))
+      let low : tallest height_of_param (map (param_of local p.signed p.range) p.settings) ≤ limit = subst (λ (qs : List PlainParam). tallest height_of_param qs ≤ limit) p.all small in
+      ((p.signed, (p.range, p.settings)), sym p.all, p.spelled, omega (arith, range_low limit local p.signed p.range p.settings p.spelled.right.right.second p.spelled.right.right.right low, settings_low limit local p.signed p.range p.settings low)))
 
 -- ---- nets
 

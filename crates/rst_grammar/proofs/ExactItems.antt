@@ -1,18 +1,17 @@
 -- The readers of items are exact.
-use Rattle.std.proofs.Common.{◌≡◌, ℕ, ◌≤◌, max, Bool, true, false, List, [], ◌∷◌, ◌++◌, length, ◌<◌, Option, Some, None, refl, sym, ap, subst, ◌∙◌, arith}
-use Rattle.rst_tree.specs.Trees.{Tree, Text, height}
+use Rattle.std.proofs.Common.{◌≡◌, ℕ, ◌≤◌, Bool, true, false, List, [], ◌∷◌, ◌++◌, length, ◌<◌, Some, None, refl, sym, subst, ◌∙◌, arith}
+use Rattle.rst_tree.specs.Trees.{Text}
 use Rattle.rst_tree.specs.Targets.{height_of_target}
-use Rattle.rst_tree.specs.Statements.{Statement, height_of}
+use Rattle.rst_tree.specs.Statements.{height_of}
 use Rattle.rst_tree.specs.declared.module.Event.{Event}
 use Rattle.rst_tree.specs.declared.module.EdgeKind.{EdgeKind}
 use Rattle.rst_tree.specs.declared.module.EdgeKind.TheVariants as edge
-use Rattle.rst_tree.specs.Modules.{PlainPortDecl, PlainParam, PlainNetDecl, PlainAssign, PlainEvents, Any, OneOf, PlainAlways, PlainInstance, PlainItem, Port, Net, Params, Assigns, AlwaysBlock, Instances, tallest, height_of_port_decl, height_of_param, height_of_net_decl, height_of_assign, height_of_item}
+use Rattle.rst_tree.specs.Modules.{PlainEvents, Any, OneOf, PlainAlways, PlainItem, Port, Net, Params, Assigns, AlwaysBlock, Instances, tallest, height_of_port_decl, height_of_param, height_of_assign, height_of_item}
 use Rattle.rst_grammar.specs.declared.symbol.Terminal.{Terminal}
 use Rattle.rst_grammar.specs.declared.symbol.Terminal.TheVariants as terminal
 use Rattle.rst_grammar.specs.declared.symbol.Symbol.{Symbol}
 use Rattle.rst_grammar.specs.declared.symbol.Symbol.TheVariants as symbol
 use Rattle.rst_grammar.specs.Says.{Nothing, ◌⊗◌, quoted, named}
-use Rattle.rst_grammar.specs.Expressions.{Spells}
 use Rattle.rst_grammar.specs.Targets.{SpellsTarget}
 use Rattle.rst_grammar.specs.Statements.{SpellsStmt}
 use Rattle.rst_grammar.specs.Productions.{Optional, Flag, Separated, Listed}
@@ -23,7 +22,7 @@ use Rattle.rst_grammar.specs.Reading.{◌>>=◌, after}
 use Rattle.rst_grammar.specs.ReadStatement.{target_reader, stmt_reader}
 use Rattle.rst_grammar.specs.ReadParts.{ReaderOf, name_in, mapped, both, behind, up_to, separated, comma_before_name}
 use Rattle.rst_grammar.specs.ReadParts as parts
-use Rattle.rst_grammar.specs.ReadDeclarations.{expr_in, port_decl_in, params_in, net_decl_in}
+use Rattle.rst_grammar.specs.ReadDeclarations.{port_decl_in, params_in, net_decl_in}
 use Rattle.rst_grammar.specs.ReadItems.{instance_in, assign_of, assign_in, assigns_in, edge_in, event_of, event_in, or_comma, event_list_in, events_in, always_of, always_in, word_item, item_in}
 use Rattle.rst_grammar.proofs.Fronts.{Front, split, joined, one_is, one_front, nothing_is, nothing_front}
 use Rattle.rst_grammar.proofs.Tools.{bind_some, Follows, comma_follows, semicolon_follows}
@@ -34,7 +33,7 @@ use Rattle.rst_grammar.proofs.SoundTargets.{target_sound}
 use Rattle.rst_grammar.proofs.SoundStatements.{stmt_sound}
 use Rattle.rst_grammar.proofs.Exact.{IsExact, Anything, Without, without, is_after, no_result, before_behind, name_exact, behind_exact, up_to_exact, both_exact, mapped_exact}
 use Rattle.rst_grammar.proofs.ExactLists.{IsSeparator, separated_exact, comma_separator, quoted_shorter}
-use Rattle.rst_grammar.proofs.ExactDeclarations.{expr_exact, EndsNames, port_decl_exact, EndsSettings, params_exact, net_decl_exact}
+use Rattle.rst_grammar.proofs.ExactDeclarations.{expr_exact, port_decl_exact, params_exact, net_decl_exact}
 use Rattle.rst_grammar.proofs.ExactLinks.{instance_exact}
 
 -- ---- assigns

@@ -1,8 +1,7 @@
 -- The readers of links and instances are exact.
-use Rattle.std.proofs.Common.{◌≡◌, ℕ, zero, suc, ◌≤◌, max, Bool, true, false, List, [], ◌∷◌, ◌++◌, length, Option, Some, None, refl, sym, ap, subst, ◌∙◌, arith}
-use Rattle.rst_tree.specs.Trees.{Tree, Text, height}
-use Rattle.rst_tree.specs.Modules.{PlainLink, PlainLinks, Ordered, Named, PlainCopied, PlainInstance, tallest, height_if, height_of_link, height_of_links, height_of_copied}
-use Rattle.rst_grammar.specs.declared.symbol.Terminal.{Terminal}
+use Rattle.std.proofs.Common.{◌≡◌, ℕ, zero, suc, ◌≤◌, max, List, [], ◌∷◌, ◌++◌, length, Option, Some, None, refl, sym, ap, subst, ◌∙◌, arith}
+use Rattle.rst_tree.specs.Trees.{Tree, height}
+use Rattle.rst_tree.specs.Modules.{PlainLink, PlainLinks, Ordered, Named, PlainCopied, tallest, height_if, height_of_link, height_of_links, height_of_copied}
 use Rattle.rst_grammar.specs.declared.symbol.Terminal.TheVariants as terminal
 use Rattle.rst_grammar.specs.declared.symbol.Symbol.{Symbol}
 use Rattle.rst_grammar.specs.declared.symbol.Symbol.TheVariants as symbol
@@ -11,14 +10,14 @@ use Rattle.rst_grammar.specs.Expressions.{Spells}
 use Rattle.rst_grammar.specs.Productions.{Optional, MoreSeparated, Listed}
 use Rattle.rst_grammar.specs.Links.{SpellsLink, SpellsLinks, SpellsParamLinks, no_links, some_links, SpellsCopied, SpellsInstance}
 use Rattle.rst_grammar.specs.Reading.{◌>>=◌, cases, after, readers, higher, full_in, binary_in, operand_in, terminal_in, unary_in}
-use Rattle.rst_grammar.specs.ReadParts.{ReaderOf, name_in, mapped, both, behind, up_to, more_separated, separated, comma}
+use Rattle.rst_grammar.specs.ReadParts.{ReaderOf, name_in, mapped, both, up_to, more_separated, separated, comma}
 use Rattle.rst_grammar.specs.ReadDeclarations.{expr_in}
 use Rattle.rst_grammar.specs.ReadItems.{link_value_in, link_of, link_in, links_in, parens_in, param_links_in, copied_of, copied_in, copies_in, instance_of, instance_in}
-use Rattle.rst_grammar.proofs.Fronts.{Front, split, joined, one_is, one_front, nothing_is, nothing_front}
+use Rattle.rst_grammar.proofs.Fronts.{Front, split, joined, one_is, nothing_is, nothing_front}
 use Rattle.rst_grammar.proofs.Tools.{bind_some, Follows, comma_follows, close_follows}
 use Rattle.rst_grammar.proofs.Terminals.{after_is}
 use Rattle.rst_grammar.proofs.Sound.{some_is, after_front}
-use Rattle.rst_grammar.proofs.Exact.{IsExact, Anything, Without, without, is_after, no_result, before_behind, name_exact, behind_exact, up_to_exact, both_exact, mapped_exact}
+use Rattle.rst_grammar.proofs.Exact.{IsExact, Anything, Without, without, is_after, no_result, name_exact, behind_exact, up_to_exact, both_exact, mapped_exact}
 use Rattle.rst_grammar.proofs.ExactLists.{separated_exact, comma_separator}
 use Rattle.rst_grammar.proofs.ExactDeclarations.{expr_exact}
 

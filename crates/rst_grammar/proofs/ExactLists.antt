@@ -1,5 +1,5 @@
 -- Exact readers of lists.
-use Rattle.std.proofs.Common.{◌≡◌, ℕ, zero, suc, ◌<◌, ◌≤◌, max, List, [], ◌∷◌, ◌++◌, length, length-append, Option, Some, None, refl, sym, ap, subst, ◌∙◌, arith}
+use Rattle.std.proofs.Common.{◌≡◌, ℕ, zero, suc, ◌<◌, ◌≤◌, List, [], ◌∷◌, ◌++◌, length, length-append, Option, Some, None, refl, sym, ap, subst, ◌∙◌, arith}
 use Rattle.rst_tree.specs.Modules.{tallest}
 use Rattle.rst_grammar.specs.declared.symbol.Terminal.{Terminal}
 use Rattle.rst_grammar.specs.declared.symbol.Terminal.TheVariants as terminal
@@ -8,12 +8,12 @@ use Rattle.rst_grammar.specs.declared.symbol.Symbol.TheVariants as symbol
 use Rattle.rst_grammar.specs.Says.{Nothing, ◌⊗◌, quoted}
 use Rattle.rst_grammar.specs.Productions.{Repeated, MoreSeparated, Separated}
 use Rattle.rst_grammar.specs.Reading.{◌>>=◌, cases, after}
-use Rattle.rst_grammar.specs.ReadParts.{ReaderOf, name_in, more_separated, separated, comma, comma_before_name, until}
+use Rattle.rst_grammar.specs.ReadParts.{ReaderOf, more_separated, separated, comma, comma_before_name, until}
 use Rattle.rst_grammar.proofs.Fronts.{Front, split, joined, one_is, nothing_is, nothing_front, no_longer}
 use Rattle.rst_grammar.proofs.Tools.{bind_some}
 use Rattle.rst_grammar.proofs.Terminals.{after_is}
 use Rattle.rst_grammar.proofs.Sound.{some_is, after_front}
-use Rattle.rst_grammar.proofs.Exact.{IsExact, Anything, Without, is_after, no_result}
+use Rattle.rst_grammar.proofs.Exact.{IsExact, Anything, is_after, no_result}
 
 -- What stands between the parts of a list: `next` finds it before a part, and a part may stand before it.
 pub record IsSeparator {A : Type 0} (Separator : List Symbol → Type 0) (next : List Symbol → Option (List Symbol)) (one : ReaderOf A) (May : List Symbol → Type 0) : Type 0 where

@@ -1,5 +1,5 @@
 -- The reader of modules is exact, so that a list of symbols has at most one module.
-use Rattle.std.proofs.Common.{◌≡◌, ℕ, ◌+◌, ◌≤◌, max, Bool, true, false, List, [], ◌∷◌, ◌++◌, length, flat_map, Option, Some, None, refl, sym, ap, subst, ◌∙◌, arith}
+use Rattle.std.proofs.Common.{◌≡◌, ◌↔◌, ℕ, ◌+◌, ◌≤◌, max, Bool, true, false, List, [], ◌∷◌, ◌++◌, flat_map, Option, Some, None, refl, sym, ap, subst, ◌∙◌, arith}
 use Rattle.rst_tree.specs.Trees.{Text}
 use Rattle.rst_tree.specs.Modules.{PlainParam, PlainPortDecl, PlainHeader, Plain, Full, PlainItem, PlainModule, tallest, height_of_param, height_of_port_decl, height_of_header, height_of_item, height_of_module}
 use Rattle.rst_grammar.specs.declared.symbol.Terminal.TheVariants as terminal
@@ -11,14 +11,13 @@ use Rattle.rst_grammar.specs.Declarations.{SpellsRange, direction, SpellsKind, S
 use Rattle.rst_grammar.specs.Items.{SpellsItem}
 use Rattle.rst_grammar.specs.Modules.{SpellsHeaderParams, no_params, some_params, NoPorts, no_parens, empty_parens, SpellsHeader, SpellsModule}
 use Rattle.rst_grammar.specs.Reading.{cases, after}
-use Rattle.rst_grammar.specs.ReadParts.{ReaderOf, name_in, mapped, both, behind, up_to, flag, optional, separated, comma, comma_before_name}
+use Rattle.rst_grammar.specs.ReadParts.{ReaderOf, mapped, both, behind, up_to, separated, comma, comma_before_name}
 use Rattle.rst_grammar.specs.ReadDeclarations.{direction_in, names_in, port_decl_in, params_in}
 use Rattle.rst_grammar.specs.ReadItems.{word_item, item_in}
 use Rattle.rst_grammar.specs.ReadModule.{groups_in, header_params_in, ports_in, header_in, items_in, module_of, module_reader}
 use Rattle.rst_grammar.proofs.Fronts.{Front, split, joined, one_is, nothing_is, nothing_front, whole, whole_of}
-use Rattle.rst_grammar.proofs.Tools.{bind_some, Follows, comma_follows, close_follows}
+use Rattle.rst_grammar.proofs.Tools.{bind_some, comma_follows, close_follows}
 use Rattle.rst_grammar.proofs.Sound.{some_is, after_front, quoted_front}
-use Rattle.rst_grammar.proofs.TakesStatements.{NoElse}
 use Rattle.rst_grammar.proofs.Exact.{IsExact, Anything, Without, without, is_after, no_result, before_behind, behind_is, name_exact, behind_exact, up_to_exact, both_exact, mapped_exact, mapped_reads}
 use Rattle.rst_grammar.proofs.ExactLists.{separated_exact, comma_separator, until_exact}
 use Rattle.rst_grammar.proofs.ExactDeclarations.{EndsNames, names_exact, nameless, port_decl_exact, EndsSettings, params_exact}
@@ -75,9 +74,15 @@ module _ (limit : ℕ) where
   with_groups params ts p =
       let g = p.right.right.left in
       some_params g.groups g.all (record {
-        first = p.first; second = p.second; parts = p.parts; left = p.left;
+        first = p.first;
+        second = p.second;
+        parts = p.parts;
+        left = p.left;
         right = record {
-          first = p.right.first; second = p.right.second; parts = p.right.parts; left = p.right.left;
+          first = p.right.first;
+          second = p.right.second;
+          parts = p.right.parts;
+          left = p.right.left;
           right = record { first = p.right.right.first; second = p.right.right.second; parts = p.right.right.parts; left = g.spelled; right = p.right.right.right };
         };
       })
@@ -85,9 +90,15 @@ module _ (limit : ℕ) where
   of_groups : (params : List PlainParam) (groups : List (List PlainParam)) (ts : List Symbol) → params ≡ flat_map (λ ps. ps) groups
       → (quoted terminal.Hash ⊗ quoted terminal.OpenParen ⊗ Listed (SpellsParams false) groups ⊗ quoted terminal.CloseParen) ts → (quoted terminal.Hash ⊗ quoted terminal.OpenParen ⊗ Groups params ⊗ quoted terminal.CloseParen) ts
   of_groups params groups ts all p = record {
-    first = p.first; second = p.second; parts = p.parts; left = p.left;
+    first = p.first;
+    second = p.second;
+    parts = p.parts;
+    left = p.left;
     right = record {
-      first = p.right.first; second = p.right.second; parts = p.right.parts; left = p.right.left;
+      first = p.right.first;
+      second = p.right.second;
+      parts = p.right.parts;
+      left = p.right.left;
       right = record { first = p.right.right.first; second = p.right.right.second; parts = p.right.right.parts; left = record { groups = groups; all = all; spelled = p.right.right.left }; right = p.right.right.right };
     };
   }
@@ -284,6 +295,10 @@ module_sound limit ts rest m found none =
 -- a module that the symbols spell is read
 pub module_takes : (limit : ℕ) (ts : List Symbol) (m : PlainModule) → SpellsModule m ts → height_of_module m ≤ limit → module_reader limit ts ≡ Some (m, [])
 module_takes limit ts m spelled small = (module_exact limit).takes m ts [] (whole ts spelled) small tt
+
+-- so a whole list is read as the module that it spells
+pub module_reads : (limit : ℕ) (ts : List Symbol) (m : PlainModule) → (module_reader limit ts ≡ Some (m, [])) ↔ (SpellsModule m ts × (height_of_module m ≤ limit))
+module_reads limit ts m = (λ found. module_sound limit ts [] m found refl, λ spelled. module_takes limit ts m spelled.0 spelled.1)
 
 -- no module but the one that was read
 pub module_only : (limit : ℕ) (ts rest : List Symbol) (m n : PlainModule) → module_reader limit ts ≡ Some (n, rest) → SpellsModule m ts → height_of_module m ≤ limit → (m ≡ n) × (rest ≡ [])

@@ -1,5 +1,5 @@
 -- The grammar of declarations: ranges, ports, nets and parameters (IEEE 1364-2001, annex A.2, narrowed).
-use Rattle.std.specs.Prelude.{◌≡◌, List, [], ◌∷◌, ◌++◌, map, Bool, true, false, Option, Some, None}
+use Rattle.std.specs.Prelude.{◌≡◌, List, map, Bool, true, false, Option, Some, None}
 use Rattle.rst_tree.specs.Trees.{Text, Tree}
 use Rattle.rst_tree.specs.Modules.{PlainRange, PlainPortDecl, PlainParam, PlainNetName, PlainNetDecl}
 use Rattle.rst_grammar.specs.declared.symbol.Terminal.{Terminal}

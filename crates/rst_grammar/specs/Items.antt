@@ -3,7 +3,7 @@ use Rattle.std.specs.Prelude.{List}
 use Rattle.rst_tree.specs.declared.module.Event.{Event}
 use Rattle.rst_tree.specs.declared.module.EdgeKind.{EdgeKind}
 use Rattle.rst_tree.specs.declared.module.EdgeKind.TheVariants as edge
-use Rattle.rst_tree.specs.Modules.{PlainAssign, PlainEvents, Any, OneOf, PlainAlways, PlainItem, Port, Net, Params, Assigns, AlwaysBlock, Instances}
+use Rattle.rst_tree.specs.Modules.{PlainAssign, PlainEvents, Any, OneOf, PlainItem, Port, Net, Params, Assigns, AlwaysBlock, Instances}
 use Rattle.rst_grammar.specs.declared.symbol.Terminal.TheVariants as terminal
 use Rattle.rst_grammar.specs.declared.symbol.Symbol.{Symbol}
 use Rattle.rst_grammar.specs.Says.{Nothing, ◌⊗◌, quoted, named}

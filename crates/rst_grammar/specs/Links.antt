@@ -1,5 +1,5 @@
 -- The grammar of instances and their links (IEEE 1364-2001, annex A.4.1, narrowed).
-use Rattle.std.specs.Prelude.{◌≡◌, List, [], ◌∷◌, Option, Some, None}
+use Rattle.std.specs.Prelude.{◌≡◌, List, [], ◌∷◌, None}
 use Rattle.rst_tree.specs.Modules.{PlainLink, PlainLinks, Ordered, Named, PlainCopied, PlainInstance}
 use Rattle.rst_grammar.specs.declared.symbol.Terminal.TheVariants as terminal
 use Rattle.rst_grammar.specs.declared.symbol.Symbol.{Symbol}

@@ -1,9 +1,8 @@
 -- Reading declarations from left to right.
-use Rattle.std.specs.Prelude.{ℕ, List, [], ◌∷◌, map, Bool, true, false, Option, Some, None}
+use Rattle.std.specs.Prelude.{ℕ, List, ◌∷◌, map, Bool, true, false, Option, Some, None}
 use Rattle.rst_tree.specs.Trees.{Text, Tree}
 use Rattle.rst_tree.specs.Modules.{PlainRange, PlainPortDecl, PlainParam, PlainNetName, PlainNetDecl}
 use Rattle.rst_grammar.specs.declared.symbol.Terminal.TheVariants as terminal
-use Rattle.rst_grammar.specs.declared.symbol.Symbol.{Symbol}
 use Rattle.rst_grammar.specs.declared.symbol.Symbol.TheVariants as symbol
 use Rattle.rst_grammar.specs.Reading.{readers}
 use Rattle.rst_grammar.specs.ReadParts.{ReaderOf, name_in, mapped, both, behind, up_to, optional, flag, separated, comma, comma_before_name}

@@ -1,5 +1,5 @@
 -- Reading links, instances and the other items from left to right.
-use Rattle.std.specs.Prelude.{ℕ, List, [], ◌∷◌, Bool, true, false, Option, Some, None}
+use Rattle.std.specs.Prelude.{ℕ, List, [], ◌∷◌, true, false, Option, Some, None}
 use Rattle.rst_tree.specs.Trees.{Text, Tree}
 use Rattle.rst_tree.specs.Targets.{Place}
 use Rattle.rst_tree.specs.Statements.{Statement}

@@ -1,9 +1,8 @@
 -- Reading modules from left to right.
-use Rattle.std.specs.Prelude.{ℕ, length, List, [], ◌∷◌, flat_map, Bool, true, false, Option, Some, None}
+use Rattle.std.specs.Prelude.{ℕ, length, List, [], ◌∷◌, flat_map, false, Some}
 use Rattle.rst_tree.specs.Trees.{Text}
 use Rattle.rst_tree.specs.Modules.{PlainParam, PlainHeader, Plain, Full, PlainItem, PlainModule}
 use Rattle.rst_grammar.specs.declared.symbol.Terminal.TheVariants as terminal
-use Rattle.rst_grammar.specs.declared.symbol.Symbol.{Symbol}
 use Rattle.rst_grammar.specs.declared.symbol.Symbol.TheVariants as symbol
 use Rattle.rst_grammar.specs.Reading.{cases, after}
 use Rattle.rst_grammar.specs.ReadParts.{ReaderOf, name_in, mapped, both, behind, up_to, separated, comma, until}
