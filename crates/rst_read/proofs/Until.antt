@@ -1,5 +1,6 @@
 -- Reading the statements of a block, and the arms of a case, one after the other, as a loop does.
-use Rattle.std.proofs.Common.{◌≡◌, ℕ, zero, suc, ◌-◌, List, [], ◌∷◌, Bool, Option, Some, None, refl, sym, ap, ◌∙◌}
+use Rattle.std.proofs.Common.{◌≡◌, ℕ, zero, suc, ◌-◌, List, [], ◌∷◌, Bool, Option, Some, None, refl, sym, ap, ◌∙◌, arith}
+use Rattle.std.proofs.lemmas.Bool.{ne_eqb}
 use Rattle.rst_tree.specs.Statements.{Statement, Statements, Arms, no_arm, labels, otherwise, appended_arms}
 use Rattle.rst_tree.specs.Statements as statements
 use Rattle.rst_grammar.specs.declared.symbol.Symbol.{Symbol}
@@ -114,7 +115,7 @@ unfolding arms_in arm_in
 arms_next below stmt wild j most [] e = labels_next below stmt wild j most []
 arms_next below stmt wild j most (symbol.Terminal terminal.Endcase ∷ ts) e = absurd cc
 arms_next below stmt wild j zero (symbol.Terminal terminal.Default ∷ ts) e = refl
-arms_next below stmt wild j (suc most) (symbol.Terminal terminal.Default ∷ ts) e = default_next below stmt wild j most ts
+arms_next below stmt wild j (suc most) (symbol.Terminal terminal.Default ∷ ts) e = rw (ne_eqb (suc most) 0 (λ same. absurd (omega arith))) (default_next below stmt wild j most ts)
 arms_next below stmt wild j most (s ∷ ts) e = labels_next below stmt wild j most (s ∷ ts)
 
 pub arms_stop : (below : Readers) (stmt : StmtReader) (wild : Bool) (k j most : ℕ) (front : Arms) (rest next : List Symbol) (total : Found Arms)

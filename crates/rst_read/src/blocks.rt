@@ -1,10 +1,11 @@
 // Statements and arms from their parts, and lists of them.
 
-ghost use Rattle.std.specs.Prelude.{◌≡◌, max, IfOk};
+ghost use Rattle.std.specs.Prelude.{◌≡◌, ◌-◌, max, IfOk};
 ghost use Rattle.rst_tree.specs.Trees.{plain, plain_all};
 ghost use Rattle.rst_tree.specs.Statements.{Block, If, IfElse, Case, end, no_arm, labels as labelled, otherwise, plain_stmt, plain_stmts, plain_arm, plain_arms, appended, appended_arms};
 
 use crate::parsed::{Many, ManyArms, ManyStmts, ParsedArm, ParsedStmt};
+use rst_grammar::Symbol;
 use rst_tree::{Arm, CaseStmt, Expr, Stmt};
 use std::alloc::{AllocError, Global};
 
@@ -32,18 +33,23 @@ pub fn if_else(alloc: Global, test: Expr, yes: Stmt, no: Stmt) -> Result<Stmt, A
 }
 
 // A case over these arms.
-#[tactic(auto, using(rst_tree::proofs::Rows::statement_rows))]
 pub fn case_of(wild: bool, selector: Expr, arms: Vec<Arm>) -> Stmt
     ensures { plain_stmt result ≡ Case wild (plain selector) (plain_arms arms.items) }
 {
     Stmt::Case(CaseStmt { wild, selector, arms })
 }
 
-// No statement.
-pub fn no_stmts(alloc: Global) -> ManyStmts
-    ensures { (plain_stmts result.stmts.items ≡ end) × (result.depth ≡ 0) }
+// No statement, and the symbols behind it.
+pub fn no_stmts<'s, 'a>(
+    alloc: Global,
+    rest: &'s [Symbol<'a>],
+) -> (ManyStmts, &'s [Symbol<'a>])
+    ensures stmts { plain_stmts result.0.stmts.items ≡ end }
+    ensures depth { result.0.depth ≡ 0 }
+    ensures behind { result.1.now ≡ rest.now }
 {
-    ManyStmts { stmts: Vec::new(alloc), depth: 0 }
+    let stmts = Vec::new(alloc);
+    (ManyStmts { stmts, depth: 0 }, rest)
 }
 
 // A list with one more behind it.
@@ -77,11 +83,21 @@ pub fn default_arm(body: ParsedStmt) -> ParsedArm
     ParsedArm { arm, depth, default_count: 1 }
 }
 
-// No arm.
-pub fn no_arms(alloc: Global) -> ManyArms
-    ensures { (plain_arms result.arms.items ≡ no_arm) × (result.depth ≡ 0) }
+// How many defaults may come behind so many more.
+pub fn defaults_left(most: u8, more: u8) -> u8
+    ensures { result ≡ most - more }
 {
-    ManyArms { arms: Vec::new(alloc), depth: 0 }
+    most.saturating_sub(more)
+}
+
+// No arm, and the symbols behind it.
+pub fn no_arms<'s, 'a>(alloc: Global, rest: &'s [Symbol<'a>]) -> (ManyArms, &'s [Symbol<'a>])
+    ensures arms { plain_arms result.0.arms.items ≡ no_arm }
+    ensures depth { result.0.depth ≡ 0 }
+    ensures behind { result.1.now ≡ rest.now }
+{
+    let arms = Vec::new(alloc);
+    (ManyArms { arms, depth: 0 }, rest)
 }
 
 // Arms with one more behind them.

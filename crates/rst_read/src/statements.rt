@@ -9,7 +9,7 @@ ghost use Rattle.rst_grammar.specs.ReadStatement.{target_reader, assignment_at, 
 ghost use Rattle.rst_read.specs.Gives.{Gives, seen_stmt, seen_stmts, seen_arm, seen_arms};
 ghost use Rattle.rst_read.specs.Parts.{default_in, labelled_in, arm_in};
 
-use crate::blocks::{and, and_arm, block, case_of, default_arm, if_alone, if_else, labelled_arm, no_arms, no_stmts};
+use crate::blocks::{and, and_arm, block, case_of, default_arm, defaults_left, if_alone, if_else, labelled_arm, no_arms, no_stmts};
 use crate::expressions::read_expression;
 use crate::labels::{default_colon, labels_in};
 use crate::parsed::{ManyArms, ManyStmts, Parsed, ParsedArm, ParsedStmt};
@@ -166,9 +166,9 @@ fn until_end<'s, 'a>(
     ensures reads { Gives seen_stmts result (until_end (stmt_reader below) (length rest.now) rest.now) }
     ensures within { IfOk result (λ x. x.0.depth ≤ below) }
 {
-    let mut all = no_stmts(alloc);
-    let mut rest = rest;
-    for _ in 0..rest.len() {
+    let turns = rest.len();
+    let (mut all, mut rest) = no_stmts(alloc, rest);
+    for _ in 0..turns {
         if let Some(after) = behind(rest, Terminal::End) {
             return Ok((all, after));
         }
@@ -228,15 +228,15 @@ fn arms_in<'s, 'a>(
     ensures reads { Gives seen_arms result (arms_in (readers below) (stmt_reader below) wild (length rest.now) 1 rest.now) }
     ensures within { IfOk result (λ x. x.0.depth ≤ max below 1) }
 {
-    let mut all = no_arms(alloc);
-    let mut rest = rest;
+    let turns = rest.len();
     let mut most_defaults = 1;
-    for _ in 0..rest.len() {
+    let (mut all, mut rest) = no_arms(alloc, rest);
+    for _ in 0..turns {
         if let Some(after) = behind(rest, Terminal::Endcase) {
             return Ok((all, after));
         }
         let (next, after) = arm_in(alloc, wild, most_defaults, rest, below)?;
-        most_defaults = most_defaults.saturating_sub(next.default_count);
+        most_defaults = defaults_left(most_defaults, next.default_count);
         all = and_arm(all, next)?;
         rest = after;
     }

@@ -45,12 +45,12 @@ decreases-default_in l = 8 * l.below + 2
 -- what is left to read gives what all gives
 abbrev pub invariant-until_end-loop : goal.invariant-until_end-loop
 invariant-until_end-loop l = record {
-  reads : with_front of_statements (plain_stmts l.all.stmts.items) (until_end (stmt_reader l.below) (l.end - l.counter) l.rest) ≡ until_end (stmt_reader l.below) (length l.fn.rest) l.fn.rest;
+  reads : with_front of_statements (plain_stmts l.all.stmts.items) (until_end (stmt_reader l.below) (l.turns - l.counter) l.rest) ≡ until_end (stmt_reader l.below) (length l.fn.rest) l.fn.rest;
   within : l.all.depth ≤ l.below;
 }
 
 abbrev pub invariant-arms_in-loop : goal.invariant-arms_in-loop
 invariant-arms_in-loop l = record {
-  reads : with_front of_arms (plain_arms l.all.arms.items) (arms_in (readers l.below) (stmt_reader l.below) l.wild (l.end - l.counter) l.most_defaults l.rest) ≡ arms_in (readers l.below) (stmt_reader l.below) l.wild (length l.fn.rest) 1 l.fn.rest;
+  reads : with_front of_arms (plain_arms l.all.arms.items) (arms_in (readers l.below) (stmt_reader l.below) l.wild (l.turns - l.counter) l.most_defaults l.rest) ≡ arms_in (readers l.below) (stmt_reader l.below) l.wild (length l.fn.rest) 1 l.fn.rest;
   within : l.all.depth ≤ max l.below 1;
 }
