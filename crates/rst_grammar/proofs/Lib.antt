@@ -5,3 +5,5 @@ pub mod TakesTargets
 pub mod TakesStatements
 pub mod Terminals
 pub mod Sound
+pub mod SoundTargets
+pub mod SoundStatements
