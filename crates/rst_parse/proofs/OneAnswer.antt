@@ -1,13 +1,12 @@
 -- The tokens of a text are parsed in one way.
-use Rattle.std.proofs.Common.{◌≡◌, ◌≢◌, ℕ, ◌+◌, List, [], ◌∷◌, length, map, Option, Some, None, Result, Ok, Err, inl, inr, refl, sym, ap, subst, ◌∙◌}
+use Rattle.std.proofs.Common.{◌≡◌, ◌≢◌, ℕ, ◌+◌, List, [], ◌∷◌, length, Option, Some, None, Result, Err, inl, inr, sym, ap, subst, ◌∙◌}
 use Rattle.rst_lex.specs.declared.token.Token.{Token}
 use Rattle.rst_tree.specs.declared.module.Source.{Source}
-use Rattle.rst_tree.specs.Modules.{PlainModule}
 use Rattle.rst_grammar.specs.declared.symbol.Symbol.{Symbol}
 use Rattle.rst_parse.specs.declared.parser.ParseFault.{ParseFault}
 use Rattle.rst_parse.specs.declared.parser.ParseFault.TheVariants as faults
 use Rattle.rst_parse.specs.ModuleGrammar.{one_module}
-use Rattle.rst_parse.specs.Symbols.{first_refused, AreSymbols}
+use Rattle.rst_parse.specs.Symbols.{first_refused}
 use Rattle.rst_parse.specs.Pieces.{pieces}
 use Rattle.rst_parse.specs.Parsing.{Answer, with_module, ReadsPieces, Parses, refused, read, plain_answer}
 use Rattle.rst_parse.proofs.SymbolSteps.{same_symbols}

@@ -1,9 +1,8 @@
 -- What the loop over pieces keeps.
-use Rattle.std.proofs.Common.{◌≡◌, ℕ, ◌+◌, ◌<◌, ◌≤◌, List, [], ◌∷◌, ◌++◌, length, drop, Result, Ok, Err, inl, inr, ◌⊎◌, refl, sym, ap, subst, ◌∙◌, arith, append_assoc, length-drop}
+use Rattle.std.proofs.Common.{◌≡◌, ℕ, ◌+◌, ◌≤◌, List, [], ◌∷◌, ◌++◌, length, drop, Ok, Err, inl, inr, refl, sym, ap, subst, arith, append_assoc, length-drop}
 use Rattle.std.proofs.lemmas.List.{append-nil, nil_from_length, drop-drop}
 use Rattle.rst_tree.specs.Modules.{PlainModule}
 use Rattle.rst_grammar.specs.declared.symbol.Symbol.{Symbol}
-use Rattle.rst_parse.specs.declared.parser.ParseFault.{ParseFault}
 use Rattle.rst_parse.specs.declared.parser.ParseFault.TheVariants as faults
 use Rattle.rst_parse.specs.Pieces.{pieces}
 use Rattle.rst_parse.specs.Parsing.{IsModuleOf, IsNoModule, Answer, with_module, ReadsPieces}

@@ -1,19 +1,18 @@
 -- A token spells no terminal exactly where it is refused.
-use Rattle.std.proofs.Common.{◌≡◌, ℕ, Bool, true, false, not, ◌&&◌, ◌||◌, ◌==◌, List, [], ◌∷◌, map, Option, Some, None, refl, sym, ap, subst, ◌∙◌, inl, inr, ◌⊎◌, bytes_eq, codes, if◌then◌else◌, IsTrue}
-use Rattle.std.specs.List.{list_any, list_all}
+use Rattle.std.proofs.Common.{◌≡◌, ℕ, Bool, true, false, not, ◌&&◌, ◌||◌, ◌==◌, List, [], ◌∷◌, map, Some, None, refl, sym, subst, ◌∙◌, inl, inr, bytes_eq, codes, if◌then◌else◌}
+use Rattle.std.specs.List.{list_all}
 use Rattle.std.specs.Option.{is_none}
-use Rattle.std.proofs.lemmas.Bool.{and_parts, or_cases, eqb-true, cases_Bool, not_from_true}
+use Rattle.std.proofs.lemmas.Bool.{and_parts, or_cases, eqb-true, cases_Bool}
 use Rattle.rst_lex.specs.declared.words.TheConstants.{KEYWORDS, REFUSED_KEYWORDS}
 use Rattle.rst_lex.specs.declared.token.TokenKind.{TokenKind}
 use Rattle.rst_lex.specs.declared.token.TokenKind.TheVariants as kinds
 use Rattle.rst_lex.specs.Marks.{IsMark, is_mark, is_mark_of_two, is_mark_of_three}
-use Rattle.rst_lex.specs.Words.{is_listed, is_profile_keyword, is_refused_keyword, IsKeyword}
+use Rattle.rst_lex.specs.Words.{is_profile_keyword, is_refused_keyword, IsKeyword}
 use Rattle.rst_lex.specs.Lexing.{IsTokenOf}
-use Rattle.rst_grammar.specs.declared.symbol.Terminal.{Terminal}
 use Rattle.rst_grammar.specs.declared.symbol.Terminal.TheVariants as terminal
-use Rattle.rst_parse.specs.Spelling.{Row, keywords, marks, functions, terminal_in}
+use Rattle.rst_parse.specs.Spelling.{keywords, marks, functions, terminal_in}
 use Rattle.rst_parse.specs.Symbols.{is_refused, terminal_symbol, symbol_of}
-use Rattle.rst_parse.proofs.Tables.{each_listed, any_of, any_says, agree, agree_same, none_mapped}
+use Rattle.rst_parse.proofs.Tables.{each_listed, any_says, agree, agree_same, none_mapped}
 
 -- ---- keywords
 

@@ -1,13 +1,9 @@
 -- Loops over tokens: one more.
-use Rattle.std.proofs.Common.{◌≡◌, ℕ, zero, suc, ◌+◌, ◌<◌, ◌≤◌, arith, Bool, true, false, cond, List, [], ◌∷◌, ◌++◌, length, take, drop, get_or, map, Option, Some, None, refl, sym, ap, ◌∙◌, subst, All, length-append, length-drop}
+use Rattle.std.proofs.Common.{◌≡◌, ℕ, zero, suc, ◌+◌, ◌<◌, ◌≤◌, arith, true, false, cond, List, [], ◌∷◌, ◌++◌, length, take, drop, get_or, map, Option, Some, None, refl, sym, ap, ◌∙◌, subst, length-drop}
 use Rattle.std.specs.List.{position_from}
-use Rattle.std.specs.Option.{is_none}
 use Rattle.std.proofs.lemmas.List.{at_drop_more, take_more, map-append, nil_from_length, length-map}
-use Rattle.std.proofs.lemmas.List.Elements.{All-cons}
 use Rattle.rst_lex.specs.declared.token.Token.{Token}
 use Rattle.rst_lex.specs.Small.{InOrder}
-use Rattle.rst_lex.specs.Tokens.{token_text}
-use Rattle.rst_lex.specs.Lexing.{IsTokenOf}
 use Rattle.rst_grammar.specs.declared.symbol.Symbol.{Symbol}
 use Rattle.rst_parse.specs.Symbols.{is_refused_token, first_refused, token_symbol, AreSymbols}
 

@@ -1,11 +1,10 @@
 -- What holds of each word of a list holds of a text that is listed.
-use Rattle.std.proofs.Common.{◌≡◌, ℕ, Bool, true, false, not, ◌||◌, List, [], ◌∷◌, map, Option, Some, None, refl, sym, ap, subst, ◌∙◌, inl, inr, ◌⊎◌, bytes_eq, if◌then◌else◌, IsTrue}
-use Rattle.std.specs.List.{list_any, list_all}
+use Rattle.std.proofs.Common.{◌≡◌, ℕ, Bool, true, false, not, ◌||◌, List, [], ◌∷◌, Option, Some, None, refl, sym, subst, inl, inr, bytes_eq}
+use Rattle.std.specs.List.{list_all}
 use Rattle.std.specs.Option.{is_none, option_map}
 use Rattle.std.proofs.lemmas.Bool.{and_parts, or_cases}
 use Rattle.rst_outside.proofs.Lookups.{bytes_eq-tells}
 use Rattle.rst_lex.specs.Words.{is_listed}
-use Rattle.rst_parse.specs.Spelling.{Row, terminal_in}
 
 same_bytes : (a b : List ℕ) → bytes_eq a b ≡ true → a ≡ b
 same_bytes a b e = elim (bytes_eq-tells a b) [ inl same ↦ same.1 | inr other ↦ absurd (both (bytes_eq a b) e other.0) ]

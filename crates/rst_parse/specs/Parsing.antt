@@ -1,5 +1,5 @@
 -- What the tokens of a text are parsed as.
-use Rattle.std.specs.Prelude.{◌≡◌, ℕ, ◌+◌, ◌≤◌, List, [], ◌∷◌, length, ◌⊎◌, Option, Some, None, Result, Ok, Err}
+use Rattle.std.specs.Prelude.{◌≡◌, ℕ, ◌+◌, ◌≤◌, List, [], ◌∷◌, length, ◌⊎◌, Some, None, Result, Ok, Err}
 use Rattle.rst_lex.specs.declared.token.Token.{Token}
 use Rattle.rst_tree.specs.declared.module.Source.{Source}
 use Rattle.rst_tree.specs.Modules.{PlainModule, height_of_module, plain_source}

@@ -1,9 +1,9 @@
-use Rattle.std.proofs.Common.{◌≡◌, ◌≤◌, map, length, Ok, Err, sym, ap, subst, ◌∙◌, arith}
+use Rattle.std.proofs.Common.{map, length, Ok, Err, ap, subst, arith}
 use Rattle.std.proofs.lemmas.Result.{err_from_is_err_and}
 use Rattle.rst_lex.proofs.LexLoop.{in_order, kinds_in}
 use Rattle.rst_tree.specs.Modules.{plain_module}
 use Rattle.rst_parse.specs.Pieces.{pieces}
-use Rattle.rst_parse.specs.Parsing.{ReadsPieces, Parses, refused, read}
+use Rattle.rst_parse.specs.Parsing.{ReadsPieces, refused, read}
 use Rattle.rst_parse.proofs.SymbolSteps.{few_tokens, symbol_count}
 use Rattle.rst_parse.proofs.OneAnswer.{one_answer, only_fault}
 use Rattle.rst_parse.proofs.parser.parse.Goals as goal

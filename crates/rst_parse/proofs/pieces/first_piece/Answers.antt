@@ -1,5 +1,4 @@
-use Rattle.std.proofs.Common.{◌≡◌, ◌<◌, arith}
-use Rattle.rst_parse.specs.Pieces.{piece_len}
+use Rattle.std.proofs.Common.{arith}
 use Rattle.rst_parse.proofs.Cutting.{cut_is, piece_some}
 use Rattle.rst_parse.proofs.pieces.first_piece.Goals as goal
 

@@ -1,4 +1,4 @@
-use Rattle.std.proofs.Common.{◌≡◌, ◌+◌, sym, ap, ◌∙◌}
+use Rattle.std.proofs.Common.{◌+◌, sym, ap, ◌∙◌}
 use Rattle.rst_parse.proofs.Cutting.{len_ends, len_goes, len_all}
 use Rattle.rst_parse.proofs.pieces.piece_len.Goals as goal
 

@@ -1,4 +1,3 @@
-use Rattle.std.proofs.Common.{take, drop}
 use Rattle.rst_parse.proofs.SymbolSteps.{SoFar}
 use Rattle.rst_parse.proofs.symbols.symbols.Given as goal
 
