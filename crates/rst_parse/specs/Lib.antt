@@ -1,0 +1,5 @@
+pub mod Spelling
+pub mod Symbols
+pub mod Pieces
+pub mod ModuleGrammar
+pub mod Parsing
