@@ -61,8 +61,9 @@ fn all_follow(trail: &mut Trail, clauses: &mut IndexedClauses, log: &Log) -> Res
         let before = clauses.len();
         clauses.push(line.as_slice())?;
         let found = propagate(trail, clauses, floor, before)?;
-        if found.is_some() {
-            return Ok(true);
+        match found {
+            Some(_) => return Ok(true),
+            None => {}
         }
     }
     Ok(true)
