@@ -6,5 +6,6 @@ pub mod Gates
 pub mod Extending
 pub mod Marks
 pub mod Scan
-pub mod Sweeping
+pub mod Noting
+pub mod Queueing
 pub mod Grown

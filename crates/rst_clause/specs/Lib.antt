@@ -8,5 +8,6 @@ pub mod Extension
 pub mod Paths
 pub mod Trails
 pub mod Looks
-pub mod Sweeps
+pub mod Occurrences
+pub mod Queue
 pub mod Passes

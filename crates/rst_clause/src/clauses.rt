@@ -2,7 +2,7 @@ ghost use Rattle.std.specs.Prelude.{◌≡◌, ◌+◌, ◌<◌, ◌^◌, [], �
 ghost use Rattle.rst_clause.specs.Literals.{AreLiterals, AreClauses};
 ghost use Rattle.rst_clause.specs.Operations.{IsDefined, IsGateBehind};
 
-use crate::{ClauseStore, Lit};
+use crate::{ClauseStore, IndexedClauses, Lit};
 use rst_outside::NoMemory;
 use std::alloc::Global;
 
@@ -23,16 +23,26 @@ pub struct Clauses {
     pub ghost in_range: { AreClauses vars required },
 }
 
+// Adds the clauses of a list at the end.
+fn add_all(all: &mut IndexedClauses, clauses: &ClauseStore) -> Result<(), NoMemory>
+    ensures { OnOk result (all.new ≡ all.old ++ clauses.now) }
+{
+    for i in 0..clauses.len() {
+        all.push(clauses.get(i))?;
+    }
+    Ok(())
+}
+
 impl Clauses {
     /// All the clauses in one list: the fixed ones, then the required ones.
-    pub fn all(&self, alloc: Global) -> Result<ClauseStore, NoMemory>
+    pub fn all(&self, alloc: Global) -> Result<IndexedClauses, NoMemory>
         ensures same { IfOk result (λ all. all ≡ self.now.fixed ++ self.now.required) }
         ensures in_range { AreClauses self.now.vars (self.now.fixed ++ self.now.required) }
         ensures few { self.now.vars < 2 ^ 31 }
     {
-        let mut all = ClauseStore::new(alloc);
-        all.append(&self.fixed)?;
-        all.append(&self.required)?;
+        let mut all = IndexedClauses::new(alloc);
+        add_all(&mut all, &self.fixed)?;
+        add_all(&mut all, &self.required)?;
         Ok(all)
     }
 

@@ -30,7 +30,7 @@ impl Model for Trail {
     ghost invariant = { λ t. AreMarks t.vars t.lits.items t.reasons.items t.marks.items };
 }
 
-fn place_of(lit: Lit) -> usize
+pub(crate) fn place_of(lit: Lit) -> usize
     ensures value { result ≡ place_of lit }
     ensures fits { result < 2 ^ 33 }
     ensures nonzero { 0 < unsigned_abs lit }
@@ -74,13 +74,16 @@ impl Trail {
         self.vars
     }
 
+    /// The number of literals that stand.
     pub fn len(&self) -> usize
         ensures value { result ≡ length self.now.lits }
+        ensures room { result ≤ 2 * self.now.vars + 2 }
         ensures consistent { IsConsistent self.now.lits }
     {
         self.lits.len()
     }
 
+    /// The literal at the place, from 0.
     pub fn get(&self, i: usize) -> Lit
         requires { i < length self.now.lits }
         ensures value { result ≡ slice_index_or self.now.lits i result }
@@ -96,7 +99,7 @@ impl Trail {
         requires not_opposite { Contains self.old.lits (opposite lit) → ⊥ }
         ensures ok { OnOk result (self.new ≡ pushed self.old lit reason) }
         ensures slot { unsigned_abs lit < length self.old.reasons }
-        ensures room { OnOk result (length self.new.lits ≤ 2 * self.new.vars + 2) }
+        ensures consistent { OnOk result (IsConsistent self.new.lits) }
     {
         self.lits.push(lit)?;
         self.marks[place_of(lit)] = true;

@@ -14,7 +14,7 @@ use Rattle.rst_clause.specs.Trails.{Trail', AllFalse, Grows, pushed, IsUnit}
 use Rattle.rst_clause.proofs.Members.{Contains-nil, Contains-first, Contains-one, Contains-map}
 use Rattle.rst_solve.specs.Analysis.{Refutes, literal_at, reason_at, IsImpliedAt, AreImpliedFrom, IsResolved}
 use Rattle.rst_solve.specs.Search.{last_of, AreLearnt, IsReady, Keeps, Says, Searched, TakesOthers, AreBoth, Spread, Notes}
-use Rattle.rst_clause.specs.Sweeps.{Propagates}
+use Rattle.rst_clause.specs.Queue.{Propagates}
 use Rattle.rst_solve.specs.declared.search.Bounds.{Bounds}
 use Rattle.rst_solve.specs.declared.search.State.{State}
 use Rattle.rst_solve.specs.declared.search.Found.{Found}

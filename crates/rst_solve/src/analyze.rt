@@ -5,7 +5,7 @@ ghost use Rattle.rst_clause.specs.Literals.{AreLiterals, AreClauses};
 ghost use Rattle.rst_clause.specs.Trails.{AllFalse};
 ghost use Rattle.rst_solve.specs.Analysis.{AreImpliedFrom, IsResolved, MarksMore};
 
-use rst_clause::{Clause, ClauseStore, Lit, Trail};
+use rst_clause::{Clause, IndexedClauses, Lit, Trail};
 use rst_outside::NoMemory;
 use std::alloc::Global;
 
@@ -45,7 +45,7 @@ pub struct Resolved {
 pub fn without_implied(
     alloc: Global,
     trail: &Trail,
-    all: &ClauseStore,
+    all: &IndexedClauses,
     index: usize,
     floor: usize,
 ) -> Result<Resolved, NoMemory>

@@ -12,7 +12,7 @@ ghost use Rattle.rst_solve.specs.Search.{IsReady, Searched, TakesOthers, last_of
 ghost use Rattle.rst_solve.specs.Tree.{NoneEmpty, LastEmpty, IsAt, HasRoomAt, KeepsApart, IsPath, Explored, original};
 
 use crate::analyze::{Resolved, has, without_implied};
-use rst_clause::{Clause, ClauseStore, Lit, Trail, propagate};
+use rst_clause::{Clause, IndexedClauses, Lit, Trail, propagate};
 use rst_gate::{Bits, Cube};
 use rst_outside::NoMemory;
 use rst_value::Tern;
@@ -31,7 +31,7 @@ pub struct Bounds {
 /// The clauses with those learnt, the trail, the decisions as a path, and the paths.
 #[derive(Drop)]
 pub struct State {
-    pub all: ClauseStore,
+    pub all: IndexedClauses,
     pub trail: Trail,
     pub path: Vec<Tern>,
     pub paths: Vec<Cube>,
@@ -217,16 +217,21 @@ fn settle(b: &Bounds, s: &mut State, first: usize, bit: u32, floor: usize) -> Re
     Ok(())
 }
 
-// Propagates.
-fn spread(b: &Bounds, s: &mut State, floor: usize) -> Result<Option<usize>, NoMemory>
+// Propagates from the last decision. Before it the first `since` clauses were complete.
+fn spread(
+    b: &Bounds,
+    s: &mut State,
+    floor: usize,
+    since: usize,
+) -> Result<Option<usize>, NoMemory>
     requires ready { IsReady b.now s.old }
     requires floor { floor ≡ length s.old.trail.lits }
+    requires complete { IsComplete (take (floor - 1) s.old.trail.lits) (take since s.old.all) }
     ensures search { IfOk result (λ r. Spread b.now floor s.old s.new r) }
     ensures paths { s.new.paths ≡ s.old.paths }
     ensures path { s.new.path ≡ s.old.path }
 {
-    let _places = floor;
-    propagate(&mut s.trail, &s.all)
+    propagate(&mut s.trail, &s.all, floor.saturating_sub(1), since)
 }
 
 // Notes the decisions as a path, where one more is allowed.
@@ -243,9 +248,16 @@ fn note_path(b: &Bounds, s: &mut State) -> Result<bool, NoMemory>
     Ok(true)
 }
 
-// Searches with one more decision, and takes it back.
+// Searches with one more decision, and takes it back. Before it the first `since` clauses, among
+// them those that were given, are complete.
 #[cycle(search)]
-fn with_decision(b: &Bounds, s: &mut State, bit: u32, value: bool) -> Result<Found, NoMemory>
+fn with_decision(
+    b: &Bounds,
+    s: &mut State,
+    bit: u32,
+    value: bool,
+    since: usize,
+) -> Result<Found, NoMemory>
     requires ready { IsReady b.now s.old }
     requires bit { bit < b.now.free }
     requires not_there { Contains s.old.trail.lits (literal_of value bit) → ⊥ }
@@ -254,6 +266,7 @@ fn with_decision(b: &Bounds, s: &mut State, bit: u32, value: bool) -> Result<Fou
     requires room { HasRoomAt b.now s.old (suc bit) }
     requires apart { KeepsApart s.old.paths.items (slice_set s.old.path.items bit (known value)) }
     requires complete { IsComplete s.old.trail.lits (original b.now s.old) }
+    requires quiet { IsComplete s.old.trail.lits (take since s.old.all) }
     requires some { NoneEmpty b.now.base s.old.all }
     ensures search { IfOk result (λ f. (s.new.trail.lits ≡ s.old.trail.lits) × Searched b.now s.old s.new (s.old.trail.lits ++ literal_of value bit ∷ []) f) }
     ensures explored { IfOk result (λ f. Explored b.now s.old s.new (slice_set s.old.path.items bit (known value)) (suc bit) f) }
@@ -262,7 +275,7 @@ fn with_decision(b: &Bounds, s: &mut State, bit: u32, value: bool) -> Result<Fou
     s.trail.push(literal(bit, value), 0)?;
     s.path[bit as usize] = place(value);
     let under = s.trail.len();
-    let found = close(b, s, bit + 1, under)?;
+    let found = close(b, s, bit + 1, under, since)?;
     s.trail.truncate(floor);
     s.path[bit as usize] = Tern::Unknown;
     Ok(found)
@@ -285,7 +298,8 @@ fn branch(b: &Bounds, s: &mut State, bit: u32, floor: usize) -> Result<Found, No
     ensures search { IfOk result (λ f. (s.new.trail.lits ≡ s.old.trail.lits) × Searched b.now s.old s.new (take floor s.old.trail.lits) f) }
     ensures explored { IfOk result (λ f. Explored b.now s.old s.new s.old.path.items bit f) }
 {
-    match with_decision(b, s, bit, false)? {
+    let since = s.all.len();
+    match with_decision(b, s, bit, false, since)? {
         Found::Closed => {}
         Found::Model(bits) => return Ok(Found::Model(bits)),
         Found::Spent => return Ok(Found::Spent),
@@ -295,7 +309,7 @@ fn branch(b: &Bounds, s: &mut State, bit: u32, floor: usize) -> Result<Found, No
         learn_last(b, s, floor)?;
         return Ok(Found::Closed);
     }
-    match with_decision(b, s, bit, true)? {
+    match with_decision(b, s, bit, true, since)? {
         Found::Closed => {}
         Found::Model(bits) => return Ok(Found::Model(bits)),
         Found::Spent => return Ok(Found::Spent),
@@ -304,9 +318,16 @@ fn branch(b: &Bounds, s: &mut State, bit: u32, floor: usize) -> Result<Found, No
     Ok(Found::Closed)
 }
 
-// Searches below the trail, whose first `floor` literals end with the last decision.
+// Searches below the trail, whose first `floor` literals end with the last decision. Before it the
+// first `since` clauses were complete.
 #[cycle(search)]
-pub fn close(b: &Bounds, s: &mut State, next: u32, floor: usize) -> Result<Found, NoMemory>
+pub fn close(
+    b: &Bounds,
+    s: &mut State,
+    next: u32,
+    floor: usize,
+    since: usize,
+) -> Result<Found, NoMemory>
     requires ready { IsReady b.now s.old }
     requires floor { floor ≡ length s.old.trail.lits }
     requires next { next ≤ b.now.free }
@@ -314,11 +335,12 @@ pub fn close(b: &Bounds, s: &mut State, next: u32, floor: usize) -> Result<Found
     requires room { HasRoomAt b.now s.old next }
     requires apart { KeepsApart s.old.paths.items s.old.path.items }
     requires tight { IsTight (original b.now s.old) s.old.path.items }
+    requires complete { IsComplete (take (floor - 1) s.old.trail.lits) (take since s.old.all) }
     requires some { NoneEmpty b.now.base s.old.all }
     ensures search { IfOk result (λ f. (take floor s.new.trail.lits ≡ s.old.trail.lits) × Searched b.now s.old s.new s.old.trail.lits f) }
     ensures explored { IfOk result (λ f. Explored b.now s.old s.new s.old.path.items next f) }
 {
-    match spread(b, s, floor)? {
+    match spread(b, s, floor, since)? {
         Some(index) => {
             if !note_path(b, s)? {
                 return Ok(Found::Spent);

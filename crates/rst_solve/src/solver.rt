@@ -3,7 +3,7 @@ ghost use Rattle.rst_value.specs.declared.tern.Tern.TheVariants.{Unknown};
 ghost use Rattle.rst_solve.specs.Answers.{Answers};
 
 use crate::search::{Bounds, Found, State, close};
-use rst_clause::{Clause, ClauseStore, Clauses, Log, Trail};
+use rst_clause::{Clause, Clauses, IndexedClauses, Log, Trail};
 use rst_gate::{Bits, Cube};
 use rst_outside::NoMemory;
 use rst_value::Tern;
@@ -21,7 +21,7 @@ pub enum Answer {
 }
 
 // The clauses from `base` on.
-fn log_of(alloc: Global, all: &ClauseStore, base: usize) -> Result<Log, NoMemory>
+fn log_of(alloc: Global, all: &IndexedClauses, base: usize) -> Result<Log, NoMemory>
     requires { base ≤ length all.now }
     ensures { IfOk result (λ log. take base all.now ++ log ≡ all.now) }
 {
@@ -57,7 +57,7 @@ pub fn solve(alloc: Global, clauses: &Clauses, left: u32) -> Result<Answer, NoMe
         path: vec![in alloc; Tern::Unknown; width]?,
         paths: Vec::new(alloc),
     };
-    let found = close(&b, &mut s, 0, 0)?;
+    let found = close(&b, &mut s, 0, 0, 0)?;
     match found {
         Found::Closed => {
             let log = log_of(alloc, &s.all, base)?;

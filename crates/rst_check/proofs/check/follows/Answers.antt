@@ -1,8 +1,10 @@
-use Rattle.std.proofs.Common.{arith, ◌≡◌, ◌<◌, ◌^◌, length, subst, ap, ◌∙◌, sym, take, refl, ℕ, Option, true, false}
+use Rattle.std.proofs.Common.{arith, ◌≡◌, ◌<◌, ◌^◌, ◌+◌, length, length-append, subst, ap, ◌∙◌, sym, take, refl, ℕ, Option, true, false}
 use Rattle.std.specs.List.{Contains}
 use Rattle.std.proofs.Math.Seq.{take-length}
 use Rattle.rst_clause.specs.Literals.{AreClauses}
-use Rattle.rst_clause.specs.Sweeps.{Propagates}
+use Rattle.rst_clause.specs.Trails.{IsComplete}
+use Rattle.rst_clause.specs.Queue.{Propagates}
+use Rattle.rst_clause.proofs.Grown.{continues_take}
 use Rattle.rst_check.proofs.LineSteps.{Assumed, assumed_start, assumed_there, assumed_pushed, assumed_begins, grown_begins, stands_follows, found_follows, none_follows, line_has}
 use Rattle.rst_check.proofs.check.follows.Goals as goal
 use Rattle.rst_check.proofs.check.follows.Goals.{then-not-has+in_ok-push, else-not-has}
@@ -26,6 +28,19 @@ propagate-requires-clause-in_range c = subst (λ n. AreClauses n c.args.clauses.
 
 pub propagate-requires-clause-few : goal.propagate-requires-clause-few
 propagate-requires-clause-few c = subst (λ n. n < 2 ^ 31) (sym c.loop-i.invariant.vars) c.requires.few
+
+pub propagate-requires-clause-from : goal.propagate-requires-clause-from
+propagate-requires-clause-from c =
+    let more = c.loop-i.invariant.continues.0 in
+    let len : length c.loop-i.trail.lits ≡ length c.args.trail.now.lits + length more = ap (λ z. length z) c.loop-i.invariant.continues.1 ∙ length-append c.args.trail.now.lits more in
+    omega (arith, c.len-floor.ensures.value, len)
+
+pub propagate-requires-clause-complete : goal.propagate-requires-clause-complete
+propagate-requires-clause-complete c =
+    let lits : take c.len-floor.result c.loop-i.trail.lits ≡ c.args.trail.now.lits =
+        ap (λ n. take n c.loop-i.trail.lits) c.len-floor.ensures.value ∙ continues_take c.args.trail.now.lits c.loop-i.trail.lits c.loop-i.invariant.continues in
+    let clauses : take c.len.result c.args.clauses.now ≡ c.args.clauses.now = ap (λ n. take n c.args.clauses.now) c.len.ensures ∙ take-length c.args.clauses.now in
+    subst (λ z. IsComplete z (take c.len.result c.args.clauses.now)) (sym lits) (subst (λ z. IsComplete c.args.trail.now.lits z) (sym clauses) c.requires.complete)
 
 pub returns-then-has : goal.returns-then-has
 returns-then-has c =

@@ -1,12 +1,20 @@
 use Rattle.std.proofs.Common.{◌++◌, subst, sym, refl, ℕ, Option, List, ℤ}
 use Rattle.rst_clause.specs.Propagation.{Closes}
-use Rattle.rst_clause.specs.Sweeps.{Propagates}
+use Rattle.rst_clause.proofs.Members.{Contains-nil}
+use Rattle.rst_clause.specs.Queue.{Propagates}
 use Rattle.rst_check.specs.Lines.{EachFollows}
 use Rattle.rst_check.proofs.Replays.{from_nothing, nothing_closes, closed_follows}
 use Rattle.rst_check.proofs.check.refutes.Goals as goal
 
 pub all_follow-requires-clause-implied : goal.all_follow-requires-clause-implied
 all_follow-requires-clause-implied c = from_nothing c.in_ok-all.all c.in_ok-trail.trail c.propagate.new.trail c.in_ok-found.ensures.grows c.in_ok-trail.ensures.1
+
+pub propagate-requires-clause-complete : goal.propagate-requires-clause-complete
+propagate-requires-clause-complete c = λ q h. absurd (Contains-nil q h)
+
+pub all_follow-requires-clause-complete : goal.all_follow-requires-clause-complete
+all_follow-requires-clause-complete c =
+    (subst (λ (o : Option ℕ). Propagates c.in_ok-all.all c.in_ok-trail.trail c.propagate.new.trail o) c.in-None.is c.in_ok-found.ensures).outcome
 
 pub returns-in-Some : goal.returns-in-Some
 returns-in-Some c =

@@ -1,6 +1,6 @@
 use Rattle.std.proofs.Common.{◌≡◌, ℕ, length, Option, Result, Ok, Err, IfOk}
 use Rattle.rst_clause.specs.Trails.{Trail'}
-use Rattle.rst_clause.specs.Sweeps.{Propagates}
+use Rattle.rst_clause.specs.Queue.{Propagates}
 use Rattle.rst_solve.specs.Search.{IsReady, Spread}
 use Rattle.rst_solve.specs.declared.search.Bounds.{Bounds}
 use Rattle.rst_solve.specs.declared.search.State.{State}

@@ -1,0 +1,28 @@
+//! A driver for measurements of the search: it poses and answers queries, and prints what it
+//! counted. `bench/run` calls it and takes the time.
+#![tactic(auto)]
+
+mod guarded;
+mod searching;
+#[cfg(test)]
+mod tests;
+
+use std::{env, io};
+
+// The first two words: what to do, and at how many bits.
+fn words(rt: &(impl std::rt::Env + AllocGlobal)) -> io::Result<(String, String)> {
+    let mut given = env::args(rt)?.skip(1);
+    let alloc = rt.alloc();
+    let command = given.next().unwrap_or(String::new(alloc));
+    let operand = given.next().unwrap_or(String::new(alloc));
+    Ok((command, operand))
+}
+
+fn main(rt: HostRuntime) -> io::Result<()> {
+    let (command, operand) = words(&rt)?;
+    let bits = operand.as_str().parse().unwrap_or(8);
+    match command.as_str() {
+        "refine" => searching::print_refine(&rt, bits),
+        _ => println!(rt; "usage: rst_search_bench refine BITS"),
+    }
+}
