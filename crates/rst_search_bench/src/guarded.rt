@@ -166,7 +166,12 @@ impl Query {
     }
 
     // Whether the pair of states is a blocked one.
-    fn lies_in(&mut self, blocked: Blocked, left: &Registers, right: &Registers) -> Result<Lit, NoMemory> {
+    fn lies_in(
+        &mut self,
+        blocked: Blocked,
+        left: &Registers,
+        right: &Registers,
+    ) -> Result<Lit, NoMemory> {
         let (Some(a), Some(b)) = (left.data.get(blocked.bit), right.data.get(blocked.bit)) else {
             return Err(NoMemory);
         };
@@ -281,6 +286,17 @@ pub(crate) fn land(alloc: Global, bits: u32, blocked: &[Blocked]) -> Result<Clau
     query.add_each(&mut some, blocked, &first.next, &second.next)?;
     query.require(&some)?;
     Ok(query.domain.finish())
+}
+
+/// The sets of pairs that differ at some bit, for each bit and both ways round: what is blocked
+/// in the end.
+pub(crate) fn all_blocked(alloc: Global, bits: u32) -> Result<Vec<Blocked>, NoMemory> {
+    let mut blocked = Vec::new(alloc);
+    for bit in 0..bits as usize {
+        blocked.push(Blocked { bit, left: false })?;
+        blocked.push(Blocked { bit, left: true })?;
+    }
+    Ok(blocked)
 }
 
 /// The pairs that a model of the query `split` shows to differ: those of the last bit at which

@@ -1,7 +1,7 @@
 // The queries about guarded data, posed and answered one after another.
-use crate::guarded::{Blocked, blocked_by, land, split};
+use crate::guarded::{Blocked, all_blocked, blocked_by, land, split};
 use rst_check::refutes;
-use rst_clause::{Clauses, Log};
+use rst_clause::{ClauseStore, Clauses, Log};
 use rst_outside::NoMemory;
 use rst_solve::{Answer, solve};
 use std::alloc::Global;
@@ -107,6 +107,38 @@ pub(crate) fn refine(alloc: Global, bits: u32) -> Result<Counts, NoMemory> {
     Ok(counts)
 }
 
+// The last query `split`, which is refuted.
+fn last_query(alloc: Global, bits: u32) -> Result<Clauses, NoMemory> {
+    let blocked = all_blocked(alloc, bits)?;
+    split(alloc, bits, &blocked)
+}
+
+// Solves the last query so many times. The paths that it took each time.
+fn solve_last(alloc: Global, bits: u32, times: u32) -> Result<usize, NoMemory> {
+    let query = last_query(alloc, bits)?;
+    let mut taken = 0usize;
+    for _ in 0..times {
+        if let Answer::Refuted { log: _, paths } = solve(alloc, &query, MOST_PATHS)? {
+            taken = paths.len();
+        }
+    }
+    Ok(taken)
+}
+
+// Solves the last query once and replays its log so many times. The lines that the log has where
+// it refutes, and else 0.
+fn replay_last(alloc: Global, bits: u32, times: u32) -> Result<usize, NoMemory> {
+    let query = last_query(alloc, bits)?;
+    let mut lines = 0usize;
+    if let Answer::Refuted { log, paths: _ } = solve(alloc, &query, MOST_PATHS)? {
+        for _ in 0..times {
+            let refuted = refutes(alloc, &query, &log)?;
+            lines = if refuted { log.len() } else { 0 };
+        }
+    }
+    Ok(lines)
+}
+
 /// Prints what the queries take at so many data bits.
 pub(crate) fn print_refine<R: Print + AllocGlobal>(rt: &R, bits: u32) -> io::Result<()> {
     match refine(rt.alloc(), bits) {
@@ -117,7 +149,57 @@ pub(crate) fn print_refine<R: Print + AllocGlobal>(rt: &R, bits: u32) -> io::Res
                 blocked,
                 confirmed,
             } = counts;
-            println!(rt; "bits {bits} entries {entries} most {most} blocked {blocked} confirmed {confirmed}")
+            println!(rt; "entries {entries} most {most} blocked {blocked} confirmed {confirmed}")
+        }
+        Err(NoMemory) => println!(rt; "no memory"),
+    }
+}
+
+/// Solves the last query so many times, and prints the paths that it takes.
+pub(crate) fn print_solved<R: Print + AllocGlobal>(
+    rt: &R,
+    bits: u32,
+    times: u32,
+) -> io::Result<()> {
+    match solve_last(rt.alloc(), bits, times) {
+        Ok(paths) => println!(rt; "paths {paths}"),
+        Err(NoMemory) => println!(rt; "no memory"),
+    }
+}
+
+/// Replays the log of the last query so many times, and prints its lines.
+pub(crate) fn print_replayed<R: Print + AllocGlobal>(
+    rt: &R,
+    bits: u32,
+    times: u32,
+) -> io::Result<()> {
+    match replay_last(rt.alloc(), bits, times) {
+        Ok(lines) => println!(rt; "lines {lines}"),
+        Err(NoMemory) => println!(rt; "no memory"),
+    }
+}
+
+// Prints the clauses of a list, each ended by 0.
+fn print_clauses<R: Print + AllocGlobal>(rt: &R, clauses: &ClauseStore) -> io::Result<()> {
+    for i in 0..clauses.len() {
+        for lit in clauses.get(i) {
+            let number = lit.number();
+            print!(rt; "{number} ")?;
+        }
+        println!(rt; "0")?;
+    }
+    Ok(())
+}
+
+/// Prints the clauses of the last query in the DIMACS format, for another solver.
+pub(crate) fn print_dimacs<R: Print + AllocGlobal>(rt: &R, bits: u32) -> io::Result<()> {
+    match last_query(rt.alloc(), bits) {
+        Ok(query) => {
+            let vars = query.vars;
+            let count = query.fixed.len().saturating_add(query.required.len());
+            println!(rt; "p cnf {vars} {count}")?;
+            print_clauses(rt, &query.fixed)?;
+            print_clauses(rt, &query.required)
         }
         Err(NoMemory) => println!(rt; "no memory"),
     }
