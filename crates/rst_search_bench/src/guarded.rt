@@ -1,6 +1,9 @@
 // Queries about a design with guarded data: an output word that is a data register where a valid
 // bit holds, and zero elsewhere. Two power-up states that agree on the valid bit have to give
 // equal outputs, and their successors too.
+ghost use Rattle.std.specs.Prelude.{◌+◌, ◌<◌, ◌^◌, IsTrue};
+ghost use Rattle.rst_clause.specs.Literals.{IsLiteral, AreLiterals};
+
 use rst_clause::{ClauseDomain, Clauses, Lit};
 use rst_outside::NoMemory;
 use rst_value::Domain;
@@ -56,9 +59,26 @@ impl Query {
         Ok(Query { alloc, domain })
     }
 
-    fn has(&self, lit: Lit) -> bool {
+    // Whether the literal is one of the query, and there is room for another variable.
+    fn has(&self, lit: Lit) -> bool
+        ensures held { IsTrue result → IsLiteral self.now.domain.clauses.vars lit }
+        ensures room { IsTrue result → self.now.domain.clauses.vars + 1 < 2 ^ 31 }
+    {
         let vars = self.domain.clauses.vars;
         lit.variable() <= vars && vars < 2_147_483_646
+    }
+
+    // Whether all the literals are ones of the query.
+    fn has_all(&self, lits: &[Lit]) -> bool
+        ensures { IsTrue result → AreLiterals self.now.domain.clauses.vars lits.now }
+    {
+        for i in 0..lits.len() {
+            let lit = lits[i];
+            if lit.variable() > self.domain.clauses.vars {
+                return false;
+            }
+        }
+        true
     }
 
     fn constant(&mut self, bit: bool) -> Result<Lit, NoMemory> {
@@ -98,10 +118,8 @@ impl Query {
 
     // Asks that one of the literals holds.
     fn require(&mut self, lits: &[Lit]) -> Result<(), NoMemory> {
-        for lit in lits {
-            if !self.has(*lit) {
-                return Err(NoMemory);
-            }
+        if !self.has_all(lits) {
+            return Err(NoMemory);
         }
         self.domain.require(lits)
     }
@@ -148,7 +166,12 @@ impl Query {
     }
 
     // Whether the pair of states is a blocked one.
-    fn lies_in(&mut self, blocked: Blocked, left: &Registers, right: &Registers) -> Result<Lit, NoMemory> {
+    fn lies_in(
+        &mut self,
+        blocked: Blocked,
+        left: &Registers,
+        right: &Registers,
+    ) -> Result<Lit, NoMemory> {
         let (Some(a), Some(b)) = (left.data.get(blocked.bit), right.data.get(blocked.bit)) else {
             return Err(NoMemory);
         };
@@ -159,6 +182,67 @@ impl Query {
         let both = self.and(valid, one)?;
         let other = if blocked.left { self.not(b)? } else { b };
         self.and(both, other)
+    }
+
+    // Registers that are free bits.
+    fn registers(&self, valid: u32, from: u32, bits: u32) -> Result<Registers, NoMemory> {
+        Ok(Registers {
+            valid: self.free_bit(valid)?,
+            data: self.free_bits(from, bits)?,
+        })
+    }
+
+    // The inputs of a cycle of the reset, all others low.
+    fn reset_inputs(&mut self, bits: u32) -> Result<Inputs, NoMemory> {
+        let reset = self.constant(true)?;
+        let enable = self.constant(false)?;
+        let mut data = Vec::new(self.alloc);
+        for _ in 0..bits {
+            data.push(enable)?;
+        }
+        Ok(Inputs {
+            reset,
+            enable,
+            data,
+        })
+    }
+
+    // Asks that the pair of states is none of the blocked ones.
+    fn forbid(
+        &mut self,
+        blocked: &[Blocked],
+        left: &Registers,
+        right: &Registers,
+    ) -> Result<(), NoMemory> {
+        for cube in blocked {
+            let inside = self.lies_in(*cube, left, right)?;
+            let outside = self.not(inside)?;
+            self.require(&[outside])?;
+        }
+        Ok(())
+    }
+
+    // For each output whether the two differ.
+    fn differences(&mut self, first: &[Lit], second: &[Lit]) -> Result<Vec<Lit>, NoMemory> {
+        let mut differ = Vec::new(self.alloc);
+        for (a, b) in first.iter().zip(second.iter()) {
+            differ.push(self.xor(*a, *b)?)?;
+        }
+        Ok(differ)
+    }
+
+    // Adds for each set of blocked pairs whether the pair of states lies in it.
+    fn add_each(
+        &mut self,
+        some: &mut Vec<Lit>,
+        blocked: &[Blocked],
+        left: &Registers,
+        right: &Registers,
+    ) -> Result<(), NoMemory> {
+        for cube in blocked {
+            some.push(self.lies_in(*cube, left, right)?)?;
+        }
+        Ok(())
     }
 }
 
@@ -175,24 +259,14 @@ pub(crate) fn split(alloc: Global, bits: u32, blocked: &[Blocked]) -> Result<Cla
         enable: query.free_bit(1)?,
         data: query.free_bits(2, bits)?,
     };
-    let valid = query.free_bit(bits + 2)?;
-    let left = Registers { valid, data: query.free_bits(bits + 3, bits)? };
-    let right = Registers { valid, data: query.free_bits(2 * bits + 3, bits)? };
+    let left = query.registers(bits + 2, bits + 3, bits)?;
+    let right = query.registers(bits + 2, 2 * bits + 3, bits)?;
     let first = query.cycle(&inputs, &left)?;
     let second = query.cycle(&inputs, &right)?;
-    for cube in blocked {
-        let inside = query.lies_in(*cube, &left, &right)?;
-        let outside = query.not(inside)?;
-        query.require(&[outside])?;
-    }
-    let mut differ = Vec::new(alloc);
-    for (a, b) in first.outputs.iter().zip(second.outputs.iter()) {
-        differ.push(query.xor(*a, *b)?)?;
-    }
-    for cube in blocked {
-        differ.push(query.lies_in(*cube, &first.next, &second.next)?)?;
-    }
-    query.require(&differ)?;
+    query.forbid(blocked, &left, &right)?;
+    let mut some = query.differences(&first.outputs, &second.outputs)?;
+    query.add_each(&mut some, blocked, &first.next, &second.next)?;
+    query.require(&some)?;
     Ok(query.domain.finish())
 }
 
@@ -203,23 +277,26 @@ pub(crate) fn land(alloc: Global, bits: u32, blocked: &[Blocked]) -> Result<Clau
         return Err(NoMemory);
     }
     let mut query = Query::new(alloc, 2 * bits + 2)?;
-    let left = Registers { valid: query.free_bit(0)?, data: query.free_bits(1, bits)? };
-    let right = Registers { valid: query.free_bit(bits + 1)?, data: query.free_bits(bits + 2, bits)? };
-    let low = query.constant(false)?;
-    let high = query.constant(true)?;
-    let mut data = Vec::new(alloc);
-    for _ in 0..bits {
-        data.push(low)?;
-    }
-    let inputs = Inputs { reset: high, enable: low, data };
+    let left = query.registers(0, 1, bits)?;
+    let right = query.registers(bits + 1, bits + 2, bits)?;
+    let inputs = query.reset_inputs(bits)?;
     let first = query.cycle(&inputs, &left)?;
     let second = query.cycle(&inputs, &right)?;
     let mut some = Vec::new(alloc);
-    for cube in blocked {
-        some.push(query.lies_in(*cube, &first.next, &second.next)?)?;
-    }
+    query.add_each(&mut some, blocked, &first.next, &second.next)?;
     query.require(&some)?;
     Ok(query.domain.finish())
+}
+
+/// The sets of pairs that differ at some bit, for each bit and both ways round: what is blocked
+/// in the end.
+pub(crate) fn all_blocked(alloc: Global, bits: u32) -> Result<Vec<Blocked>, NoMemory> {
+    let mut blocked = Vec::new(alloc);
+    for bit in 0..bits as usize {
+        blocked.push(Blocked { bit, left: false })?;
+        blocked.push(Blocked { bit, left: true })?;
+    }
+    Ok(blocked)
 }
 
 /// The pairs that a model of the query `split` shows to differ: those of the last bit at which

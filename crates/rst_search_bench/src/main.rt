@@ -1,5 +1,5 @@
-//! A driver for measurements of the search: it poses and answers queries, and prints what it
-//! counted. `bench/run` calls it and takes the time.
+//! A driver for measurements of the search: it poses queries and answers them, or replays their
+//! logs, and prints what it counted. `bench/run` calls it and takes the time.
 #![tactic(auto)]
 
 mod guarded;
@@ -9,7 +9,10 @@ mod tests;
 
 use std::{env, io};
 
-// The first two words: what to do, and at how many bits.
+// How often a query is solved, or its log replayed.
+const TIMES: u32 = 20;
+
+// The first two words: what to do, and at how many data bits.
 fn words(rt: &(impl std::rt::Env + AllocGlobal)) -> io::Result<(String, String)> {
     let mut given = env::args(rt)?.skip(1);
     let alloc = rt.alloc();
@@ -23,6 +26,9 @@ fn main(rt: HostRuntime) -> io::Result<()> {
     let bits = operand.as_str().parse().unwrap_or(8);
     match command.as_str() {
         "refine" => searching::print_refine(&rt, bits),
-        _ => println!(rt; "usage: rst_search_bench refine BITS"),
+        "solve" => searching::print_solved(&rt, bits, TIMES),
+        "replay" => searching::print_replayed(&rt, bits, TIMES),
+        "dimacs" => searching::print_dimacs(&rt, bits),
+        _ => println!(rt; "usage: rst_search_bench (refine | solve | replay | dimacs) BITS"),
     }
 }

@@ -3,8 +3,23 @@ use crate::searching::refine;
 use std::test::Fail;
 
 #[test]
-fn guarded_data_takes_few_paths(rt: HostRuntime) -> Result<(), Fail> {
-    let c = refine(rt.alloc(), 32, 20_000)?;
-    assert!(rt; c.confirmed);
+fn paths_grow_with_the_width_alone(rt: HostRuntime) -> Result<(), Fail> {
+    for bits in [8u32, 16, 32] {
+        let counts = refine(rt.alloc(), bits)?;
+        let width = bits as usize;
+        assert!(rt; counts.confirmed, "{bits} bits are refuted");
+        assert!(rt;
+            counts.blocked <= 2 * width,
+            "{bits} bits block each value once"
+        );
+        assert!(rt;
+            counts.most <= 4 * width,
+            "{bits} bits take few paths a query"
+        );
+        assert!(rt;
+            counts.entries < 20_000,
+            "{bits} bits take few paths in all"
+        );
+    }
     Ok(())
 }

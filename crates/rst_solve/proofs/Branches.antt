@@ -4,7 +4,7 @@ use Rattle.std.proofs.Math.ListN.{get_or-append, length-set}
 use Rattle.std.proofs.Math.Nat.{eq-or-lt_of_le}
 use Rattle.std.proofs.lemmas.Bool.{cases_lt}
 use Rattle.std.proofs.lemmas.Bool.Decides.{eqb_tells}
-use Rattle.std.proofs.Math.Seq.{take-suc, take-length, get_or-append_seam, get_or-append_right}
+use Rattle.std.proofs.Math.Seq.{take-suc, take-length, take-append_seam, get_or-append_seam, get_or-append_right}
 use Rattle.std.specs.List.{Contains}
 use Rattle.std.proofs.lemmas.List.{take-append-le}
 use Rattle.std.proofs.Common.{get_or-set_other, get_or-set_same}
@@ -143,6 +143,15 @@ nothing_closes cs path t con q stands = complete_open (units (path_literals path
 
 pub complete_first : (base : ℕ) (all : List (List ℤ)) (t : List ℤ) → IsComplete t all → IsComplete t (take base all)
 complete_first base all t q c h = q c (Contains-take base all c h)
+
+-- a trail that was complete, below one more literal
+pub complete_below : (old new : List ℤ) (l : ℤ) (n : ℕ) (clauses : List (List ℤ)) → new ≡ old ++ l ∷ [] → n ≡ length new → IsComplete old clauses
+    → IsComplete (take (n - 1) new) clauses
+complete_below old new l n clauses e len q =
+    let longer : length new ≡ length old + 1 = ap length e ∙ length-append old (l ∷ []) in
+    let at : n - 1 ≡ length old = omega (arith, len, longer) in
+    let front : take (n - 1) new ≡ old = ap (λ z. take (n - 1) z) e ∙ ap (λ k. take k (old ++ l ∷ [])) at ∙ take-append_seam old (l ∷ []) in
+    subst (λ z. IsComplete z clauses) (sym front) q
 
 -- a path is tight by its last decision
 pub decision_tight : (cs : List (List ℤ)) (path : List Tern) (bit : ℕ) (value : Bool) (t : List ℤ) → bit < length path → get_or path bit Unknown ≡ Unknown

@@ -116,11 +116,11 @@ seen_passed all t index p seen changed lt unseen s = record {
 -- the literals so far
 pub record OutSoFar (t : Trail') (floor : ℕ) (seen : List Bool) (i : ℕ) (out : List ℤ) : Type 0 where
   pub kept : AllFalse (take floor t.lits) out
-  pub all : (q : ℕ) → q < i → get_or seen (unsigned_abs (literal_at t q)) false ≡ true → Contains out (opposite (literal_at t q))
+  pub all : (q : ℕ) → i ≤ q → q < floor → get_or seen (unsigned_abs (literal_at t q)) false ≡ true → Contains out (opposite (literal_at t q))
   pub in_range : AreLiterals t.vars out
 
-pub out_start : (t : Trail') (floor : ℕ) (seen : List Bool) → OutSoFar t floor seen 0 []
-out_start t floor seen = record { kept = λ k h. absurd (Contains-nil k h); all = λ q h. absurd (omega arith); in_range = All-nil (IsLiteral t.vars) }
+pub out_start : (t : Trail') (floor : ℕ) (seen : List Bool) → OutSoFar t floor seen floor []
+out_start t floor seen = record { kept = λ k h. absurd (Contains-nil k h); all = λ q low high. absurd (omega arith); in_range = All-nil (IsLiteral t.vars) }
 
 contains-take-at : (xs : List ℤ) (n q : ℕ) → q < n → n ≤ length xs → Contains (take n xs) (get_or xs q (pos 0))
 contains-take-at xs n q lt le =
@@ -131,38 +131,36 @@ contains-take-at xs n q lt le =
     read xs n q d lt = get_or-take n xs q d lt
 
 pub out_more : (t : Trail') (floor : ℕ) (seen : List Bool) (i : ℕ) (out : List ℤ) → i < floor → floor ≤ length t.lits → IsLiteral t.vars (literal_at t i)
-    → OutSoFar t floor seen i out → OutSoFar t floor seen (i + 1) (out ++ opposite (literal_at t i) ∷ [])
+    → OutSoFar t floor seen (i + 1) out → OutSoFar t floor seen i (out ++ opposite (literal_at t i) ∷ [])
 out_more t floor seen i out lt le isl o = record {
   kept = λ k h. elim (Contains-push_cases out (opposite (literal_at t i)) k h) [
     | inl j ↦ o.kept k j
     | inr e ↦ subst (λ z. Contains (take floor t.lits) z) (sym (opposite-opposite (literal_at t i)) ∙ ap opposite e) (contains-take-at t.lits floor i lt le)
   ];
-  all = λ q ql qs.
-      let l : q ≤ i = omega arith in
-      elim (eq-or-lt_of_le l) [
-        | inl e ↦ subst (λ n. Contains (out ++ opposite (literal_at t i) ∷ []) (opposite (literal_at t n))) (sym e) (Contains-push out (opposite (literal_at t i)))
-        | inr b ↦ Contains-append_left out (opposite (literal_at t i) ∷ []) (opposite (literal_at t q)) (o.all q b qs)
+  all = λ q low high qs.
+      elim (eq-or-lt_of_le low) [
+        | inl e ↦ subst (λ n. Contains (out ++ opposite (literal_at t i) ∷ []) (opposite (literal_at t n))) e (Contains-push out (opposite (literal_at t i)))
+        | inr b ↦ Contains-append_left out (opposite (literal_at t i) ∷ []) (opposite (literal_at t q)) (o.all q (omega arith) high qs)
       ];
   in_range = All-push (IsLiteral t.vars) out (opposite (literal_at t i)) o.in_range (subst (λ n. 1 ≤ n) (sym (abs-opposite (literal_at t i))) isl.0, subst (λ n. n ≤ t.vars) (sym (abs-opposite (literal_at t i))) isl.1);
 }
 
 pub out_passed : (t : Trail') (floor : ℕ) (seen : List Bool) (i : ℕ) (out : List ℤ) → get_or seen (unsigned_abs (literal_at t i)) false ≡ false
-    → OutSoFar t floor seen i out → OutSoFar t floor seen (i + 1) out
+    → OutSoFar t floor seen (i + 1) out → OutSoFar t floor seen i out
 out_passed t floor seen i out unseen o = record {
   kept = o.kept;
-  all = λ q ql qs.
-      let l : q ≤ i = omega arith in
-      elim (eq-or-lt_of_le l) [
-        | inl e ↦ absurd (let f : true ≡ false = sym qs ∙ ap (λ n. get_or seen (unsigned_abs (literal_at t n)) false) e ∙ unseen in cc)
-        | inr b ↦ o.all q b qs
+  all = λ q low high qs.
+      elim (eq-or-lt_of_le low) [
+        | inl e ↦ absurd (let f : true ≡ false = sym qs ∙ ap (λ n. get_or seen (unsigned_abs (literal_at t n)) false) (sym e) ∙ unseen in cc)
+        | inr b ↦ o.all q (omega arith) high qs
       ];
   in_range = o.in_range;
 }
 
 pub resolved_from : (all : List (List ℤ)) (t : Trail') (index floor : ℕ) (seen : List Bool) (changed : Bool) (out : List ℤ) → Seen all t index floor seen changed
-    → OutSoFar t floor seen floor out → IsResolved all t index floor out changed
+    → OutSoFar t floor seen 0 out → IsResolved all t index floor out changed
 resolved_from all t index floor seen changed out s o = record {
-  refutes = λ ds among d. s.closes ds among (λ q ql qlen qs. subst (λ z. Derived ds z) (opposite-opposite (literal_at t q)) (d (opposite (literal_at t q)) (o.all q ql qs)));
+  refutes = λ ds among d. s.closes ds among (λ q ql qlen qs. subst (λ z. Derived ds z) (opposite-opposite (literal_at t q)) (d (opposite (literal_at t q)) (o.all q (omega arith) ql qs)));
   kept = o.kept;
   in_range = o.in_range;
   same = s.same;

@@ -72,8 +72,11 @@ pub fn without_implied(
             mark(&mut seen, vars, all.get(reason));
         }
     }
+    // The latest literal comes first: a later look at the clause then soon meets an open one.
     let mut out = Clause::new(alloc);
-    for q in 0..floor {
+    let mut q = floor;
+    'keep: while q > 0 {
+        q -= 1;
         let low = trail.get(q);
         if seen[low.variable() as usize] {
             out.push(low.opposite())?;

@@ -218,12 +218,7 @@ fn settle(b: &Bounds, s: &mut State, first: usize, bit: u32, floor: usize) -> Re
 }
 
 // Propagates from the last decision. Before it the first `since` clauses were complete.
-fn spread(
-    b: &Bounds,
-    s: &mut State,
-    floor: usize,
-    since: usize,
-) -> Result<Option<usize>, NoMemory>
+fn spread(b: &Bounds, s: &mut State, floor: usize, since: usize) -> Result<Option<usize>, NoMemory>
     requires ready { IsReady b.now s.old }
     requires floor { floor ≡ length s.old.trail.lits }
     requires complete { IsComplete (take (floor - 1) s.old.trail.lits) (take since s.old.all) }

@@ -3,9 +3,8 @@ use Rattle.std.proofs.lemmas.List.{get_or_default}
 use Rattle.std.proofs.lemmas.Grind.{common_steps}
 use Rattle.rst_clause.specs.Literals.{IsLiteral, AreLiterals}
 use Rattle.rst_solve.specs.Analysis.{literal_at, reason_at, MarksMore}
-use Rattle.rst_solve.proofs.Walk.{Seen, OutSoFar, seen_start, seen_resolved, seen_passed, out_more, out_passed, resolved_from, read_mark}
+use Rattle.rst_solve.proofs.Walk.{Seen, OutSoFar, seen_start, seen_resolved, seen_passed, out_start, out_more, out_passed, resolved_from, read_mark}
 use Rattle.rst_solve.proofs.analyze.without_implied.Goals as goal
-use Rattle.rst_solve.proofs.analyze.without_implied.Goals.{then-index-2+in_ok-push, else-index-2}
 
 pub walk-init : goal.walk-init
 walk-init c =
@@ -70,27 +69,43 @@ walk-preserved c =
           (subst (λ z. get_or c.walk.seen.items (unsigned_abs z) false ≡ false) is unseen) s,
     )
 
-pub loop-q-preserved : goal.loop-q-preserved
-loop-q-preserved c =
-    let below : c.loop-q.q < c.args.floor = omega arith in
-    let lt : c.loop-q.q < length c.args.trail.now.lits = omega (arith, c.requires.floor) in
-    let is : c.get-low.result ≡ literal_at c.args.trail.now c.loop-q.q = c.get-low.ensures.value ∙ get_or_default c.args.trail.now.lits c.loop-q.q c.get-low.result (pos 0) lt in
-    let isl : IsLiteral c.args.trail.now.vars (literal_at c.args.trail.now c.loop-q.q) = subst (λ z. IsLiteral c.args.trail.now.vars z) is c.get-low.ensures.in_range in
+pub keep-init : goal.keep-init
+keep-init c =
+    (omega arith, subst (λ z. OutSoFar c.args.trail.now c.args.floor c.walk.seen.items c.args.floor z) (sym c.new-out.ensures) (out_start c.args.trail.now c.args.floor c.walk.seen.items))
+
+pub keep-preserved-in-Continue-branch-2 : goal.keep-preserved-in-Continue-branch-2
+keep-preserved-in-Continue-branch-2 c =
+    let some : 0 < c.keep.q = c.keep-test.true in
+    let n : c.keep.q ≡ c.keep.q - 1 + 1 = omega (arith, some) in
+    let below : c.keep.q - 1 < c.args.floor = omega (arith, some, c.keep.invariant.0) in
+    let lt : c.keep.q - 1 < length c.args.trail.now.lits = omega (arith, below, c.requires.floor) in
+    let is : c.get-low.result ≡ literal_at c.args.trail.now (c.keep.q - 1) = c.get-low.ensures.value ∙ get_or_default c.args.trail.now.lits (c.keep.q - 1) c.get-low.result (pos 0) lt in
+    let so_far : OutSoFar c.args.trail.now c.args.floor c.walk.seen.items (c.keep.q - 1 + 1) c.keep.out = subst (λ m. OutSoFar c.args.trail.now c.args.floor c.walk.seen.items m c.keep.out) n c.keep.invariant.1 in
+    let isl : IsLiteral c.args.trail.now.vars (literal_at c.args.trail.now (c.keep.q - 1)) = subst (λ z. IsLiteral c.args.trail.now.vars z) is c.get-low.ensures.in_range in (
+      omega (arith, below),
+      rw (c.in_ok-push.ensures.ok, c.opposite.ensures, is) (out_more c.args.trail.now c.args.floor c.walk.seen.items (c.keep.q - 1) c.keep.out below c.requires.floor isl so_far),
+    )
+
+pub keep-preserved : goal.keep-preserved
+keep-preserved c =
+    let some : 0 < c.keep.q = c.keep-test.true in
+    let n : c.keep.q ≡ c.keep.q - 1 + 1 = omega (arith, some) in
+    let below : c.keep.q - 1 < c.args.floor = omega (arith, some, c.keep.invariant.0) in
+    let lt : c.keep.q - 1 < length c.args.trail.now.lits = omega (arith, below, c.requires.floor) in
+    let is : c.get-low.result ≡ literal_at c.args.trail.now (c.keep.q - 1) = c.get-low.ensures.value ∙ get_or_default c.args.trail.now.lits (c.keep.q - 1) c.get-low.result (pos 0) lt in
+    let so_far : OutSoFar c.args.trail.now c.args.floor c.walk.seen.items (c.keep.q - 1 + 1) c.keep.out = subst (λ m. OutSoFar c.args.trail.now c.args.floor c.walk.seen.items m c.keep.out) n c.keep.invariant.1 in
     let top : unsigned_abs c.get-low.result ≤ c.args.trail.now.vars = c.get-low.ensures.in_range.1 in
     let in_seen : unsigned_abs c.get-low.result < length c.walk.seen.items = omega (arith, c.walk.invariant.2.size) in
-    elim c.if-index-2.branch [
-      | then-index-2+in_ok-push w ↦
-          rw (w.out-is, w.in_ok-push.ensures.ok, w.opposite.ensures, is) (out_more c.args.trail.now c.args.floor c.walk.seen.items c.loop-q.q c.loop-q.out below c.requires.floor isl c.loop-q.invariant)
-      | else-index-2 w ↦
-          let unseen : get_or c.walk.seen.items (unsigned_abs c.get-low.result) false ≡ false =
-          read_mark c.walk.seen.items c.variable-in-loop-q.result (unsigned_abs c.get-low.result) c.index-in-loop-q.result.now false c.index-in-loop-q.ensures c.variable-in-loop-q.ensures.value in_seen w.if-index-2.false in
-          rw w.out-is (out_passed c.args.trail.now c.args.floor c.walk.seen.items c.loop-q.q c.loop-q.out (subst (λ z. get_or c.walk.seen.items (unsigned_abs z) false ≡ false) is unseen) c.loop-q.invariant)
-    ]
+    let unseen : get_or c.walk.seen.items (unsigned_abs c.get-low.result) false ≡ false =
+    read_mark c.walk.seen.items c.variable-in-keep.result (unsigned_abs c.get-low.result) c.index-in-keep.result.now false c.index-in-keep.ensures c.variable-in-keep.ensures.value in_seen c.if-index-2.false in (
+      omega (arith, below),
+      out_passed c.args.trail.now c.args.floor c.walk.seen.items (c.keep.q - 1) c.keep.out (subst (λ z. get_or c.walk.seen.items (unsigned_abs z) false ≡ false) is unseen) so_far,
+    )
 
 pub returns : goal.returns
 returns c =
     let at_floor : c.walk.p ≡ c.args.floor = omega (arith, c.walk.invariant.0) in
-    let at_end : c.loop-q.q ≡ c.args.floor = omega arith in
-    resolved_from c.args.all.now c.args.trail.now c.args.index c.args.floor c.walk.seen.items c.walk.changed c.loop-q.out
+    let at_end : c.keep.q ≡ 0 = omega arith in
+    resolved_from c.args.all.now c.args.trail.now c.args.index c.args.floor c.walk.seen.items c.walk.changed c.keep.out
     (subst (λ n. Seen c.args.all.now c.args.trail.now c.args.index n c.walk.seen.items c.walk.changed) at_floor c.walk.invariant.2)
-    (subst (λ n. OutSoFar c.args.trail.now c.args.floor c.walk.seen.items n c.loop-q.out) at_end c.loop-q.invariant)
+    (subst (λ n. OutSoFar c.args.trail.now c.args.floor c.walk.seen.items n c.keep.out) at_end c.keep.invariant.1)

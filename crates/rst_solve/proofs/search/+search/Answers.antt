@@ -16,7 +16,7 @@ use Rattle.rst_solve.specs.Tree.{Explored, original, NoneEmpty, IsPath, KeepsApa
 use Rattle.rst_solve.specs.declared.search.Found.{Found}
 use Rattle.rst_solve.specs.declared.search.Found.TheVariants.{Closed, Model, Spent}
 use Rattle.rst_solve.proofs.Places.{place_within}
-use Rattle.rst_solve.proofs.Branches.{apart_within, complete_first, original_kept, last_some, contains_some, conflict_empty, decision_tight}
+use Rattle.rst_solve.proofs.Branches.{apart_within, complete_first, original_kept, complete_below, last_some, contains_some, conflict_empty, decision_tight}
 use Rattle.rst_solve.proofs.Leaves.{at_grown, at_after, at_decided, explored_conflict, explored_none, spent_below, explored_inner, explored_decided, explored_wider, explored_both, explored_settled, room_first, room_second, room_later, apart_second, known_grown}
 use Rattle.rst_solve.proofs.Models.{trail_solution}
 use Rattle.rst_solve.proofs.Steps.{joined, first_closed, both_closed, implied_kept, other_lits, Keeps-both, decided, after_growth, model_at, false_noted, implied_noted, closed_noted, spent_noted}
@@ -42,7 +42,7 @@ branch-with_decision-requires t c =
                     apart_within c.args.s.now.paths.items c.args.s.now.path.items (set c.args.s.now.path.items c.args.bit (known false)) (place_within c.args.s.now.path.items c.args.bit false open') c.requires.apart,
                     (
                       complete_first c.args.b.now.base c.args.s.now.all c.args.s.now.trail.lits c.requires.complete,
-                      c.requires.some,
+                      (complete_first c.len-since.result c.args.s.now.all c.args.s.now.trail.lits c.requires.complete, c.requires.some),
                     ),
                   ),
                 ),
@@ -126,7 +126,10 @@ branch-with_decision-requires-2 t c =
                     apart_second c.args.b.now c.args.s.now c.with_decision.new.s c.args.bit Closed inside open' c.requires.apart y1,
                     (
                       subst (λ z. IsComplete z (original c.args.b.now c.with_decision.new.s)) (sym e1) (subst (λ z. IsComplete c.args.s.now.trail.lits z) (sym (original_kept c.args.b.now.base c.args.s.now.all x1.keeps.more c.with_decision.new.s.all c.requires.ready.base x1.keeps.all)) (complete_first c.args.b.now.base c.args.s.now.all c.args.s.now.trail.lits c.requires.complete)),
-                      last_some c.args.b.now.base c.with_decision.new.s.all y1.tells.1 (contains_some (last_of c.with_decision.new.s.all) (pos (suc c.args.bit)) has1),
+                      (
+                        subst (λ z. IsComplete z (take c.len-since.result c.with_decision.new.s.all)) (sym e1) (subst (λ z. IsComplete c.args.s.now.trail.lits z) (sym (original_kept c.len-since.result c.args.s.now.all x1.keeps.more c.with_decision.new.s.all (omega (arith, c.len-since.ensures)) x1.keeps.all)) (complete_first c.len-since.result c.args.s.now.all c.args.s.now.trail.lits c.requires.complete)),
+                        last_some c.args.b.now.base c.with_decision.new.s.all y1.tells.1 (contains_some (last_of c.with_decision.new.s.all) (pos (suc c.args.bit)) has1),
+                      ),
                     ),
                   ),
                 ),
@@ -242,7 +245,10 @@ with_decision-close-requires t c =
                   subst (λ p. KeepsApart c.args.s.now.paths.items p) (sym path1) c.requires.apart,
                   (
                     subst (λ p. IsTight (original c.args.b.now c.args.s.now) p) (sym path1) (decision_tight (original c.args.b.now c.args.s.now) c.args.s.now.path.items c.args.bit c.args.value c.args.s.now.trail.lits inside open' c.len-floor.ensures.consistent c.requires.complete c.requires.at.stands),
-                    c.requires.some,
+                    (
+                      complete_below c.args.s.now.trail.lits c.push.new.self.lits (literal_of c.args.value c.args.bit) c.len-under.result (take c.args.since c.args.s.now.all) lits1 c.len-under.ensures.value c.requires.quiet,
+                      c.requires.some,
+                    ),
                   ),
                 ),
               ),

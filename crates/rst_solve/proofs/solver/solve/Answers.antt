@@ -1,5 +1,6 @@
 use Rattle.std.proofs.Common.{◌≡◌, replicate, rules}
 use Rattle.rst_value.specs.declared.tern.Tern.TheVariants.{Unknown}
+use Rattle.rst_clause.proofs.Members.{Contains-nil}
 use Rattle.rst_solve.proofs.Start.{start_at, closed_answer, model_answer, spent_answer}
 use Rattle.rst_solve.proofs.solver.solve.Goals as goal
 
@@ -20,3 +21,6 @@ returns-in-Model c =
 pub returns : goal.returns
 returns c =
     spent_answer _ _ c.close.new.s _ c.in_ok-found.found c.in-Spent.is c.in_ok-all.ensures.same c.len-base.ensures c.in_ok-found.ensures.search.1 c.in_ok-found.ensures.explored
+
+pub close-requires-clause-complete : goal.close-requires-clause-complete
+close-requires-clause-complete c = λ q h. absurd (Contains-nil q h)
