@@ -14,10 +14,13 @@ mod trees;
 
 pub use expressions::{Answer, expression, read_expression};
 pub use parsed::{Many, Parsed, ParsedStmt, ParsedTarget};
-pub use statements::{StmtAnswer, read_statement};
+pub use statements::{StmtAnswer, read_statement, statement};
 pub use stop::Stop;
 pub use targets::{TargetAnswer, read_target};
-pub use terminals::after;
+pub use terminals::{after, behind};
 
 #[cfg(test)]
 mod tests;
+
+#[cfg(test)]
+mod statement_tests;

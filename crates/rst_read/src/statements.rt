@@ -1,9 +1,10 @@
 // Reading statements, one function for each reader of the grammar's specification.
 
-ghost use Rattle.std.specs.Prelude.{◌≡◌, ◌+◌, ◌≤◌, length, max, IfOk};
+ghost use Rattle.std.specs.Prelude.{◌≡◌, ◌+◌, ◌≤◌, length, max, IfOk, Some};
 ghost use Rattle.std.specs.Option.{option_map};
 ghost use Rattle.rst_tree.specs.Trees.{plain};
-ghost use Rattle.rst_tree.specs.Statements.{plain_stmt};
+ghost use Rattle.rst_tree.specs.Statements.{Statement, plain_stmt, height_of};
+ghost use Rattle.rst_grammar.specs.Statements.{SpellsStmt};
 ghost use Rattle.rst_grammar.specs.Reading.{readers};
 ghost use Rattle.rst_grammar.specs.ReadStatement.{target_reader, assignment_at, set_in, else_in, if_in, behind_name, block_name, until_end, block_in, arms_in, some_arms, case_in, stmt_in, stmt_reader};
 ghost use Rattle.rst_read.specs.Gives.{Gives, seen_stmt, seen_stmts, seen_arm, seen_arms};
@@ -293,4 +294,18 @@ fn default_in<'s, 'a>(alloc: Global, rest: &'s [Symbol<'a>], below: u8) -> ArmAn
     let rest = default_colon(rest);
     let (body, rest) = read_statement(alloc, rest, below)?;
     Ok((default_arm(body), rest))
+}
+
+/// The statement that the symbols spell, of a height of at most 200.
+pub fn statement<'a>(alloc: Global, symbols: &[Symbol<'a>]) -> Result<Stmt, Stop>
+    // What is read is spelled so.
+    ensures found { IfOk result (λ s. SpellsStmt (plain_stmt s) symbols.now × (height_of (plain_stmt s) ≤ 200)) }
+    // What is spelled so is read, unless memory runs out.
+    ensures only { (s : Statement) → SpellsStmt s symbols.now → height_of s ≤ 200 → Gives plain_stmt result (Some s) }
+{
+    let (found, rest) = read_statement(alloc, symbols, 200)?;
+    if !rest.is_empty() {
+        return Err(Stop::NoTree);
+    }
+    Ok(found.stmt)
 }
