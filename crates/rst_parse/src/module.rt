@@ -3,7 +3,7 @@
 ghost use Rattle.std.specs.Prelude.{◌≤◌, Some, IfOk};
 ghost use Rattle.rst_tree.specs.Modules.{PlainModule, plain_module, height_of_module};
 ghost use Rattle.rst_read.specs.Gives.{Gives};
-ghost use Rattle.rst_parse.specs.ModuleGrammar.{SpellsModule};
+ghost use Rattle.rst_grammar.specs.Modules.{SpellsModule};
 
 use rst_grammar::Symbol;
 use rst_read::Stop;
