@@ -5,7 +5,7 @@ use Rattle.rst_tree.specs.declared.module.Source.{Source}
 use Rattle.rst_grammar.specs.declared.symbol.Symbol.{Symbol}
 use Rattle.rst_parse.specs.declared.parser.ParseFault.{ParseFault}
 use Rattle.rst_parse.specs.declared.parser.ParseFault.TheVariants as faults
-use Rattle.rst_parse.specs.ModuleGrammar.{one_module}
+use Rattle.rst_grammar.proofs.ExactModules.{one_module}
 use Rattle.rst_parse.specs.Symbols.{first_refused}
 use Rattle.rst_parse.specs.Pieces.{pieces}
 use Rattle.rst_parse.specs.Parsing.{Answer, with_module, ReadsPieces, Parses, refused, read, plain_answer}

@@ -4,7 +4,7 @@ use Rattle.rst_lex.specs.declared.token.Token.{Token}
 use Rattle.rst_tree.specs.declared.module.Source.{Source}
 use Rattle.rst_tree.specs.Modules.{PlainModule, height_of_module, plain_source}
 use Rattle.rst_grammar.specs.declared.symbol.Symbol.{Symbol}
-use Rattle.rst_parse.specs.ModuleGrammar.{SpellsModule}
+use Rattle.rst_grammar.specs.Modules.{SpellsModule}
 use Rattle.rst_parse.specs.declared.parser.ParseFault.{ParseFault}
 use Rattle.rst_parse.specs.declared.parser.ParseFault.TheVariants as faults
 use Rattle.rst_parse.specs.Symbols.{first_refused, AreSymbols}
