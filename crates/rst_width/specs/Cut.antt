@@ -1,0 +1,44 @@
+-- Sized expressions as the code holds them: 65 stands for every own width above 64.
+use Rattle.std.specs.Prelude.{◌≡◌, ℕ, min, ◌≤◌, ◌<◌, IfOk}
+use Rattle.rst_word.specs.declared.ops.UnaryOp.{UnaryOp}
+use Rattle.rst_word.specs.declared.ops.UnaryOp.TheVariants as unary
+use Rattle.rst_width.specs.declared.typed_expr.Shape.{Shape}
+use Rattle.rst_width.specs.Sized.{Sized, Found, Leaf, Unary, Binary, Shift, Choose, Earlier, Own, Good}
+use Rattle.rst_width.specs.Sizing.{Arithmetic, Moving, kind_of}
+use Rattle.rst_width.specs.Fit.{IsFit, IsFitNode}
+
+abbrev pub cut_width : ℕ → ℕ
+cut_width width = min width 65
+
+abbrev pub cut_shape : Shape → Shape
+cut_shape shape = record { width = cut_width shape.width; signed = shape.signed }
+
+-- An expression whose leaves have cut widths. That is enough: the largest of widths, their sum, and count times a width are above
+-- 64 exactly where those of the cut widths are.
+abbrev pub cut : Sized → Sized
+cut (Leaf shape found) = Leaf (cut_shape shape) found
+cut (Unary op a) = Unary op (cut a)
+cut (Binary op a b) = Binary op (cut a) (cut b)
+cut (Shift op a amount) = Shift op (cut a) amount
+cut (Choose c a b) = Choose c (cut a) (cut b)
+
+-- the operators with one operand that work in context
+abbrev pub WorksInContext : UnaryOp → Type 0
+WorksInContext unary.Plus = Unit {0}
+WorksInContext unary.Minus = Unit {0}
+WorksInContext unary.Invert = Unit {0}
+WorksInContext _ = ⊥
+
+-- What stands at a leaf has a width, and fits where that is at most 64.
+abbrev pub IsFitFound : Shape → Found → Type 0
+IsFitFound shape (Earlier fault) = Unit {0}
+IsFitFound shape (Own fault) = Unit {0}
+IsFitFound shape (Good node) = (0 < shape.width) × (shape.width ≤ 64 → IsFitNode shape node)
+
+-- Typed parts fit, and the operators are those that work in context.
+abbrev pub IsFitSized : Sized → Type 0
+IsFitSized (Leaf shape found) = IsFitFound shape found
+IsFitSized (Unary op a) = WorksInContext op × IsFitSized a
+IsFitSized (Binary op a b) = (kind_of op ≡ Arithmetic) × IsFitSized a × IsFitSized b
+IsFitSized (Shift op a amount) = (kind_of op ≡ Moving) × IsFitSized a × IfOk amount IsFit
+IsFitSized (Choose c a b) = IfOk c IsFit × IsFitSized a × IsFitSized b
