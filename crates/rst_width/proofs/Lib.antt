@@ -1,3 +1,6 @@
 pub mod Cuts
+pub mod PartLists
+pub mod Rows
 pub mod Fits
 pub mod SizingFits
+pub mod SizingCuts

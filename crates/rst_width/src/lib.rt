@@ -5,8 +5,12 @@
 //! So each part is typed once, and the work grows with the size of the expression alone.
 #![tactic(auto)]
 
+mod constant;
+mod parts;
 mod scope;
+mod selects;
 mod sized;
+mod sizing;
 mod typed_expr;
 mod typing;
 
