@@ -8,3 +8,4 @@ pub mod Plain
 pub mod Answers
 pub mod Fit
 pub mod Cut
+pub mod Fronts

@@ -5,6 +5,7 @@
 //! So each part is typed once, and the work grows with the size of the expression alone.
 #![tactic(auto)]
 
+mod constant;
 mod scope;
 mod sized;
 mod typed_expr;
