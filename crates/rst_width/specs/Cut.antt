@@ -1,11 +1,12 @@
 -- Sized expressions as the code holds them: 65 stands for every own width above 64.
-use Rattle.std.specs.Prelude.{◌≡◌, ℕ, min, ◌≤◌, ◌<◌, IfOk}
+use Rattle.std.specs.Prelude.{◌≡◌, ℕ, min, ◌≤◌, ◌<◌, Bool, IfOk}
 use Rattle.rst_word.specs.declared.ops.UnaryOp.{UnaryOp}
 use Rattle.rst_word.specs.declared.ops.UnaryOp.TheVariants as unary
 use Rattle.rst_width.specs.declared.typed_expr.Shape.{Shape}
 use Rattle.rst_width.specs.Sized.{Sized, Found, Leaf, Unary, Binary, Shift, Choose, Earlier, Own, Good}
 use Rattle.rst_width.specs.Sizing.{Arithmetic, Moving, kind_of}
 use Rattle.rst_width.specs.Fit.{IsFit, IsFitNode}
+use Rattle.rst_width.specs.Typed.{sized_as}
 
 abbrev pub cut_width : ℕ → ℕ
 cut_width width = min width 65
@@ -29,11 +30,11 @@ WorksInContext unary.Minus = Unit {0}
 WorksInContext unary.Invert = Unit {0}
 WorksInContext _ = ⊥
 
--- What stands at a leaf has a width, and fits where that is at most 64.
+-- What stands at a leaf has a width, and fits, whatever sign the context gives it, where that is at most 64.
 abbrev pub IsFitFound : Shape → Found → Type 0
 IsFitFound shape (Earlier fault) = Unit {0}
 IsFitFound shape (Own fault) = Unit {0}
-IsFitFound shape (Good node) = (0 < shape.width) × (shape.width ≤ 64 → IsFitNode shape node)
+IsFitFound shape (Good node) = (0 < shape.width) × (shape.width ≤ 64 → (signed : Bool) → IsFitNode (sized_as shape.width signed) node)
 
 -- Typed parts fit, and the operators are those that work in context.
 abbrev pub IsFitSized : Sized → Type 0

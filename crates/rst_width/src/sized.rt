@@ -1,4 +1,4 @@
-// SizedExpr expressions.
+// Sized expressions.
 
 use crate::typed_expr::{Shape, TypedExpr, TypedNode, WidthFault};
 use rst_word::{BinaryOp, UnaryOp};
