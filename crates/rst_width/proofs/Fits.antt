@@ -16,16 +16,7 @@ use Rattle.rst_width.specs.Values.{constant_word}
 use Rattle.rst_width.specs.Sized.{Answer, Sized, Found, Leaf, Unary, Binary, Shift, Choose, Earlier, Own, Good, own, larger, in_context, by_itself, brought, operated, divided, is_division, ◌>>=◌}
 use Rattle.rst_width.specs.Sizing.{kind_of, Kind, Arithmetic, Moving}
 use Rattle.rst_width.specs.Fit.{IsShape, IsFit, IsFitNode, FitsUnary, FitsBinary, FitsDivisor, FitsDivision}
-use Rattle.rst_width.specs.Cut.{cut, cut_shape, WorksInContext, IsFitFound, IsFitSized}
-
--- an expression of this width and sign that fits
-pub record IsFitAt (context : Shape) (e : Typed) : Type 0 where
-  pub fit : IsFit e
-  pub at : shape_of e ≡ context
-
--- an answer that fits in this context
-abbrev pub FitsIn : Shape → Answer → Type 0
-FitsIn context answer = IfOk answer (IsFitAt context)
+use Rattle.rst_width.specs.Cut.{cut, cut_shape, WorksInContext, IsFitFound, IsFitSized, IsFitAt, FitsIn}
 
 shape_fits : (w : ℕ) (s : Bool) → 0 < w → w ≤ 64 → IsShape (sized_as w s)
 shape_fits w s h k = record { some_bits = h; at_most_64 = k }

@@ -1,4 +1,5 @@
 pub mod Cuts
 pub mod Fits
 pub mod Rows
+pub mod Walks
 pub mod Words

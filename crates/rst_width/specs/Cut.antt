@@ -3,10 +3,10 @@ use Rattle.std.specs.Prelude.{◌≡◌, ℕ, min, ◌≤◌, ◌<◌, Bool, IfO
 use Rattle.rst_word.specs.declared.ops.UnaryOp.{UnaryOp}
 use Rattle.rst_word.specs.declared.ops.UnaryOp.TheVariants as unary
 use Rattle.rst_width.specs.declared.typed_expr.Shape.{Shape}
-use Rattle.rst_width.specs.Sized.{Sized, Found, Leaf, Unary, Binary, Shift, Choose, Earlier, Own, Good}
+use Rattle.rst_width.specs.Sized.{Answer, Sized, Found, Leaf, Unary, Binary, Shift, Choose, Earlier, Own, Good}
 use Rattle.rst_width.specs.Sizing.{Arithmetic, Moving, kind_of}
 use Rattle.rst_width.specs.Fit.{IsFit, IsFitNode}
-use Rattle.rst_width.specs.Typed.{sized_as}
+use Rattle.rst_width.specs.Typed.{Typed, sized_as, shape_of}
 
 abbrev pub cut_width : ℕ → ℕ
 cut_width width = min width 65
@@ -43,3 +43,12 @@ IsFitSized (Unary op a) = WorksInContext op × IsFitSized a
 IsFitSized (Binary op a b) = (kind_of op ≡ Arithmetic) × IsFitSized a × IsFitSized b
 IsFitSized (Shift op a amount) = (kind_of op ≡ Moving) × IsFitSized a × IfOk amount IsFit
 IsFitSized (Choose c a b) = IfOk c IsFit × IsFitSized a × IsFitSized b
+
+-- an expression of this width and sign that fits
+pub record IsFitAt (context : Shape) (e : Typed) : Type 0 where
+  pub fit : IsFit e
+  pub at : shape_of e ≡ context
+
+-- an answer that fits in this context
+abbrev pub FitsIn : Shape → Answer → Type 0
+FitsIn context answer = IfOk answer (IsFitAt context)

@@ -9,3 +9,4 @@ pub mod Answers
 pub mod Fit
 pub mod Cut
 pub mod Fronts
+pub mod Steps

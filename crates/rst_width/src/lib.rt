@@ -7,6 +7,7 @@
 
 mod constant;
 mod scope;
+mod selects;
 mod sized;
 mod typed_expr;
 mod typing;
