@@ -41,12 +41,15 @@ brought_fits shape n context some fits wide small =
     ]
 
 -- what holds behind a step that may fail
-bind : {A : Type 0} (P : A → Type 0) (Q : Typed → Type 0) (r : Result A WidthFault) (f : A → Answer) → IfOk r P → ((x : A) → P x → IfOk (f x) Q) → IfOk (r >>= f) Q
+pub bind : {A B : Type 0} (P : A → Type 0) (Q : B → Type 0) (r : Result A WidthFault) (f : A → Result B WidthFault) → IfOk r P → ((x : A) → P x → IfOk (f x) Q) → IfOk (r >>= f) Q
 bind P Q (Ok x) f h k = k x h
 bind P Q (Err e) f h k = tt
 
 shape_is_fit : (context : Shape) (e : Typed) → IsFitAt context e → IsShape context
 shape_is_fit context (typed shape n) h = subst IsShape h.at h.fit.0
+
+pub fit_width : (context : Shape) (e : Typed) → IsFitAt context e → 0 < context.width
+fit_width context e h = (shape_is_fit context e h).some_bits
 
 unary_fits : (op : UnaryOp) (context : Shape) (x : Typed) → WorksInContext op → IsFitAt context x → IsFitAt context (typed context (node.Unary op x))
 unary_fits unary.Plus context x w h = record { fit = (shape_is_fit context x h, (h.at, h.fit)); at = refl }
@@ -94,14 +97,15 @@ operated_fits binary.LogicAnd context x y kind h k = cc
 operated_fits binary.LogicOr context x y kind h k = cc
 operated_fits op context x y kind h k = plain_fits op context x y kind tt h k
 
-no_divisor : (op : BinaryOp) (x y : Typed) → kind_of op ≡ Moving → FitsDivisor op x y
-no_divisor binary.Div x y kind = cc
-no_divisor binary.Rem x y kind = cc
-no_divisor _ x y kind = tt
+-- an operator that is no arithmetic is no division
+pub no_divisor : (op : BinaryOp) (x y : Typed) → (kind_of op ≡ Arithmetic → ⊥) → FitsDivisor op x y
+no_divisor binary.Div x y other = absurd (other refl)
+no_divisor binary.Rem x y other = absurd (other refl)
+no_divisor _ x y other = tt
 
 shift_fits : (op : BinaryOp) (context : Shape) (x y : Typed) → kind_of op ≡ Moving → IsFitAt context x → IsFit y → IsFitAt context (typed context (node.Binary op x y))
 shift_fits op context x y kind h k = record {
-  fit = (shape_is_fit context x h, (subst (λ (z : Kind). FitsBinary z context (shape_of x) (shape_of y)) (sym kind) h.at, no_divisor op x y kind, h.fit, k));
+  fit = (shape_is_fit context x h, (subst (λ (z : Kind). FitsBinary z context (shape_of x) (shape_of y)) (sym kind) h.at, no_divisor op x y (λ arithmetic. cc), h.fit, k));
   at = refl;
 }
 
@@ -132,3 +136,15 @@ in_context-fit (Choose c a b) context fits wide =
         (λ x f. bind (IsFitAt context) (IsFitAt context) (in_context true a context) _ (in_context-fit a context fits.1 (omega arith))
             (λ y h. bind (IsFitAt context) (IsFitAt context) (in_context true b context) _ (in_context-fit b context fits.2 (omega arith))
                 (λ z k. record { fit = (shape_is_fit context y h, (h.at, k.at, f, h.fit, k.fit)); at = refl })))
+
+-- by itself
+pub by_itself-fit : (s : Sized) → IsFitSized s → FitsIn (own s) (by_itself s)
+by_itself-fit s fits = in_context-fit s (own s) fits (omega arith)
+
+-- an answer whose typed expression fits
+only_fits : (context : Shape) (answer : Answer) → FitsIn context answer → IfOk answer IsFit
+only_fits context (Ok e) h = h.fit
+only_fits context (Err f) h = tt
+
+pub by_itself-is_fit : (s : Sized) → IsFitSized s → IfOk (by_itself s) IsFit
+by_itself-is_fit s fits = only_fits (own s) (by_itself s) (by_itself-fit s fits)
