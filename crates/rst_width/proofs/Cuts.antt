@@ -22,7 +22,7 @@ own-cut (Binary op a b) = rw (own-cut a, own-cut b) (larger-cut (own a) (own b))
 own-cut (Shift op a amount) = own-cut a
 own-cut (Choose c a b) = rw (own-cut a, own-cut b) (larger-cut (own a) (own b))
 
-same_when_narrow : (shape : Shape) → shape.width ≤ 64 → cut_shape shape ≡ shape
+pub same_when_narrow : (shape : Shape) → shape.width ≤ 64 → cut_shape shape ≡ shape
 same_when_narrow shape h = with_width _ _ _ (omega arith)
 
 -- a narrow context
@@ -46,7 +46,7 @@ narrow tests (Shift op a amount) context h = rw (narrow tests a context h) refl
 narrow tests (Choose c a b) context h = rw (narrow tests a context h, narrow tests b context h) refl
 
 -- a context above 64 bits: the fault is the first among those that no context decides, and the leaves' TooWide
-wide_fault : Sized → WidthFault
+pub wide_fault : Sized → WidthFault
 wide_fault (Leaf shape (Earlier fault)) = fault
 wide_fault (Leaf shape (Own fault)) = TooWide
 wide_fault (Leaf shape (Good node)) = TooWide
@@ -56,7 +56,7 @@ wide_fault (Shift op a amount) = wide_fault a
 wide_fault (Choose (Ok c) a b) = wide_fault a
 wide_fault (Choose (Err fault) a b) = fault
 
-wide : (tests : Bool) (s : Sized) (context : Shape) → 64 < context.width → in_context tests s context ≡ Err (wide_fault s)
+pub wide : (tests : Bool) (s : Sized) (context : Shape) → 64 < context.width → in_context tests s context ≡ Err (wide_fault s)
 unfolding wide_fault
 wide tests (Leaf shape (Earlier fault)) context h = refl
 wide tests (Leaf shape (Own fault)) context h = rw (lt-ltb 64 context.width h) refl

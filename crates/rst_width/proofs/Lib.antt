@@ -1,5 +1,6 @@
 pub mod Cuts
 pub mod Fits
+pub mod Outcomes
 pub mod Rows
 pub mod SizingFits
 pub mod Walks

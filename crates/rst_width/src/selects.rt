@@ -7,7 +7,7 @@ ghost use Rattle.rst_width.specs.Selects.{signal_at, in_range, place_in, stays_i
 ghost use Rattle.rst_width.specs.Cut.{cut_shape};
 ghost use Rattle.rst_width.specs.Fit.{IsFit};
 
-use crate::constant::{constant_word, names_signal};
+use crate::values::{constant_word, names_signal};
 use crate::scope::{Entry, SignalShape};
 use crate::sized::{Answer, Found};
 use crate::typed_expr::{Shape, TypedExpr, TypedNode, WidthFault};

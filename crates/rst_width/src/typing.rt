@@ -8,7 +8,7 @@ ghost use Rattle.rst_width.specs.Steps.{unary_step, binary_step, shift_step, cho
 ghost use Rattle.rst_width.specs.Cut.{IsFitSized, FitsIn};
 ghost use Rattle.rst_width.specs.Fit.{IsFit};
 
-use crate::constant::{constant_word, names_signal};
+use crate::values::{constant_word, names_signal};
 use crate::sized::{Answer, Found, SizedExpr};
 use crate::typed_expr::{Shape, TypedExpr, TypedNode, WidthFault};
 use rst_word::{BinaryOp, UnaryOp};

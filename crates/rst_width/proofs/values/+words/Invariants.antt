@@ -1,7 +1,7 @@
 use Rattle.std.proofs.Common.{drop}
 use Rattle.rst_width.specs.Typed.{plain_all, plain_vec}
 use Rattle.rst_width.proofs.Words.{StillJoins}
-use Rattle.rst_width.proofs.constant.+words.Given as goal
+use Rattle.rst_width.proofs.values.+words.Given as goal
 
 -- what is joined so far, with the parts that are left behind it, is the join of all
 abbrev pub invariant-joined_parts-loop-part : goal.invariant-joined_parts-loop-part

@@ -1,7 +1,7 @@
 use Rattle.std.proofs.Common.{◌≡◌, ◌-◌, ◌*◌, ◌≤◌}
 use Rattle.rst_word.specs.Plain.{plain_word}
 use Rattle.rst_width.specs.Values.{repeated}
-use Rattle.rst_width.proofs.constant.repeated.Given as goal
+use Rattle.rst_width.proofs.values.repeated.Given as goal
 
 -- what stands there so far, followed by the words that are left, is the whole repetition
 abbrev pub invariant-loop : goal.invariant-loop

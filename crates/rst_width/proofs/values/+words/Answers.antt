@@ -1,7 +1,7 @@
 use Rattle.std.proofs.Common.{◌≡◌, ◌∙◌, refl, sym, ap, arith}
 use Rattle.rst_width.specs.Typed.{plain_all, plain_vec}
 use Rattle.rst_width.proofs.Rows.{plain_row-hidden}
-use Rattle.rst_width.proofs.constant.+words.Goals as goal
+use Rattle.rst_width.proofs.values.+words.Goals as goal
 
 pub joined_parts-loop-part-init : goal.joined_parts-loop-part-init
 joined_parts-loop-part-init t c =

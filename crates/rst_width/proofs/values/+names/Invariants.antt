@@ -1,6 +1,6 @@
 use Rattle.std.proofs.Common.{◌≡◌, drop}
 use Rattle.rst_width.specs.Typed.{plain_all, list_names}
-use Rattle.rst_width.proofs.constant.+names.Given as goal
+use Rattle.rst_width.proofs.values.+names.Given as goal
 
 -- what is left names a signal where all of them do
 abbrev pub invariant-list_names-loop-part : goal.invariant-list_names-loop-part

@@ -4,7 +4,7 @@ use Rattle.rst_word.specs.Words.{PlainWord}
 use Rattle.rst_word.specs.Plain.{plain_word}
 use Rattle.rst_width.specs.Values.{repeated}
 use Rattle.rst_width.proofs.Words.{repeated-step}
-use Rattle.rst_width.proofs.constant.repeated.Goals as goal
+use Rattle.rst_width.proofs.values.repeated.Goals as goal
 
 pub loop-preserved : goal.loop-preserved
 loop-preserved c =

@@ -3,7 +3,7 @@ use Rattle.rst_width.specs.declared.typed_expr.TypedExpr.{TypedExpr}
 use Rattle.rst_width.specs.declared.typed_expr.TypedNode.{TypedNode}
 use Rattle.rst_width.specs.Typed.{plain_node, plain_all, node_names, list_names}
 use Rattle.rst_width.proofs.Rows.{plain_node-Repeat}
-use Rattle.rst_width.proofs.constant.+names.Goals as goal
+use Rattle.rst_width.proofs.values.+names.Goals as goal
 
 pub names_signal-returns-in-Repeat : goal.names_signal-returns-in-Repeat
 names_signal-returns-in-Repeat t c =
