@@ -1,13 +1,13 @@
 -- Cut widths give the same typed expressions and faults as whole ones.
-use Rattle.std.proofs.Common.{◌≡◌, ℕ, min, max, ◌<◌, ◌≤◌, Bool, true, false, cond, Ok, Err, refl, ap, sym, ◌∙◌, arith, nat_lt, Result, ◌⊎◌, inl, inr}
+use Rattle.std.proofs.Common.{◌≡◌, ℕ, min, ◌<◌, ◌≤◌, Bool, true, false, Ok, Err, refl, ap, arith, nat_lt, inl, inr}
 use Rattle.std.proofs.lemmas.Bool.{le-ltb, lt-ltb}
 use Rattle.std.proofs.lemmas.Bool.Decides.{leb_tells}
 use Rattle.rst_width.specs.declared.typed_expr.Shape.{Shape}
 use Rattle.rst_width.specs.declared.typed_expr.WidthFault.{WidthFault}
 use Rattle.rst_width.specs.declared.typed_expr.WidthFault.TheVariants.{TooWide}
-use Rattle.rst_width.specs.Typed.{Typed, Node}
-use Rattle.rst_width.specs.Sized.{Answer, Sized, Found, Leaf, Unary, Binary, Shift, Choose, Earlier, Own, Good, own, larger, in_context, by_itself, brought}
-use Rattle.rst_width.specs.Cut.{cut, cut_shape, cut_width}
+use Rattle.rst_width.specs.Typed.{Node}
+use Rattle.rst_width.specs.Sized.{Sized, Leaf, Unary, Binary, Shift, Choose, Earlier, Own, Good, own, larger, in_context, by_itself, brought}
+use Rattle.rst_width.specs.Cut.{cut, cut_shape}
 
 with_width : (v w : ℕ) (signed : Bool) → v ≡ w → ◌≡◌ {A = Shape} (record { width = v; signed = signed }) (record { width = w; signed = signed })
 with_width v w signed e = ap (λ (x : ℕ). record { width = x; signed = signed }) e
@@ -22,18 +22,18 @@ own-cut (Binary op a b) = rw (own-cut a, own-cut b) (larger-cut (own a) (own b))
 own-cut (Shift op a amount) = own-cut a
 own-cut (Choose c a b) = rw (own-cut a, own-cut b) (larger-cut (own a) (own b))
 
-same_when_narrow : (shape : Shape) → shape.width ≤ 64 → cut_shape shape ≡ shape
+pub same_when_narrow : (shape : Shape) → shape.width ≤ 64 → cut_shape shape ≡ shape
 same_when_narrow shape h = with_width _ _ _ (omega arith)
 
 -- a narrow context
 brought-cut : (shape : Shape) (node : Node) (context : Shape) → context.width ≤ 64 → brought (cut_shape shape) node context ≡ brought shape node context
 brought-cut shape node context h =
     elim (leb_tells shape.width 64) [
-      inl t ↦ ap (λ (x : Shape). brought x node context) (same_when_narrow shape t.1)
-    | inr t ↦
-        let long : nat_lt shape.width context.width ≡ false = le-ltb shape.width context.width (omega arith) in
-        let cut_long : nat_lt (min shape.width 65) context.width ≡ false = le-ltb (min shape.width 65) context.width (omega arith) in
-        rw (long, cut_long) refl
+      | inl t ↦ ap (λ (x : Shape). brought x node context) (same_when_narrow shape t.1)
+      | inr t ↦
+          let long : nat_lt shape.width context.width ≡ false = le-ltb shape.width context.width (omega arith) in
+          let cut_long : nat_lt (min shape.width 65) context.width ≡ false = le-ltb (min shape.width 65) context.width (omega arith) in
+          rw (long, cut_long) refl
     ]
 
 narrow : (tests : Bool) (s : Sized) (context : Shape) → context.width ≤ 64 → in_context tests (cut s) context ≡ in_context tests s context
@@ -46,7 +46,7 @@ narrow tests (Shift op a amount) context h = rw (narrow tests a context h) refl
 narrow tests (Choose c a b) context h = rw (narrow tests a context h, narrow tests b context h) refl
 
 -- a context above 64 bits: the fault is the first among those that no context decides, and the leaves' TooWide
-wide_fault : Sized → WidthFault
+pub wide_fault : Sized → WidthFault
 wide_fault (Leaf shape (Earlier fault)) = fault
 wide_fault (Leaf shape (Own fault)) = TooWide
 wide_fault (Leaf shape (Good node)) = TooWide
@@ -56,7 +56,7 @@ wide_fault (Shift op a amount) = wide_fault a
 wide_fault (Choose (Ok c) a b) = wide_fault a
 wide_fault (Choose (Err fault) a b) = fault
 
-wide : (tests : Bool) (s : Sized) (context : Shape) → 64 < context.width → in_context tests s context ≡ Err (wide_fault s)
+pub wide : (tests : Bool) (s : Sized) (context : Shape) → 64 < context.width → in_context tests s context ≡ Err (wide_fault s)
 unfolding wide_fault
 wide tests (Leaf shape (Earlier fault)) context h = refl
 wide tests (Leaf shape (Own fault)) context h = rw (lt-ltb 64 context.width h) refl
@@ -82,8 +82,8 @@ wide_fault-cut (Choose (Err fault) a b) = refl
 pub in_context-cut : (tests : Bool) (s : Sized) (context : Shape) → in_context tests (cut s) (cut_shape context) ≡ in_context tests s context
 in_context-cut tests s context =
     elim (leb_tells context.width 64) [
-      inl t ↦ rw (same_when_narrow context t.1) (narrow tests s context t.1)
-    | inr t ↦ rw (wide tests (cut s) (cut_shape context) (omega arith), wide tests s context t.1) (ap Err (wide_fault-cut s))
+      | inl t ↦ rw (same_when_narrow context t.1) (narrow tests s context t.1)
+      | inr t ↦ rw (wide tests (cut s) (cut_shape context) (omega arith), wide tests s context t.1) (ap Err (wide_fault-cut s))
     ]
 
 pub by_itself-cut : (s : Sized) → by_itself (cut s) ≡ by_itself s

@@ -1,6 +1,9 @@
 pub mod Cuts
-pub mod PartLists
 pub mod Rows
 pub mod Fits
+pub mod Outcomes
+pub mod PartLists
 pub mod SizingFits
 pub mod SizingCuts
+pub mod Walks
+pub mod Words

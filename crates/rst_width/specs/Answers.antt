@@ -41,3 +41,7 @@ abbrev pub Gives : {X Y : Type 0} → (X → Y) → Result X WidthFault → Resu
 Gives view (Ok x) answer = answer ≡ Ok (view x)
 Gives view (Err fault.NoMemory) answer = Unit {0}
 Gives view (Err e) answer = answer ≡ Err e
+
+-- a width and sign, as they stand
+abbrev pub same_shape : Shape → Shape
+same_shape shape = shape

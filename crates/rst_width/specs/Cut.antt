@@ -6,7 +6,7 @@ use Rattle.rst_width.specs.declared.typed_expr.Shape.{Shape}
 use Rattle.rst_width.specs.Sized.{Answer, own, by_itself, ◌>>=◌, Sized, Found, Leaf, Unary, Binary, Shift, Choose, Earlier, Own, Good}
 use Rattle.rst_width.specs.Sizing.{Parts, Arithmetic, Moving, kind_of}
 use Rattle.rst_width.specs.Fit.{IsFit, IsFitNode}
-use Rattle.rst_width.specs.Typed.{TypedList, end, more, appended, sized_as}
+use Rattle.rst_width.specs.Typed.{Typed, TypedList, end, more, appended, sized_as, shape_of}
 use Rattle.rst_width.specs.declared.typed_expr.WidthFault.{WidthFault}
 
 abbrev pub cut_width : ℕ → ℕ
@@ -64,3 +64,12 @@ IsFitSized (Unary op a) = WorksInContext op × IsFitSized a
 IsFitSized (Binary op a b) = (kind_of op ≡ Arithmetic) × IsFitSized a × IsFitSized b
 IsFitSized (Shift op a amount) = (kind_of op ≡ Moving) × IsFitSized a × IfOk amount IsFit
 IsFitSized (Choose c a b) = IfOk c IsFit × IsFitSized a × IsFitSized b
+
+-- an expression of this width and sign that fits
+pub record IsFitAt (context : Shape) (e : Typed) : Type 0 where
+  pub fit : IsFit e
+  pub at : shape_of e ≡ context
+
+-- an answer that fits in this context
+abbrev pub FitsIn : Shape → Answer → Type 0
+FitsIn context answer = IfOk answer (IsFitAt context)

@@ -8,3 +8,5 @@ pub mod Plain
 pub mod Answers
 pub mod Fit
 pub mod Cut
+pub mod Fronts
+pub mod Steps

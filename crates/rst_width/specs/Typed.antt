@@ -8,6 +8,9 @@ use Rattle.rst_width.specs.declared.typed_expr.Shape.{Shape}
 use Rattle.rst_width.specs.declared.typed_expr.TypedExpr.{TypedExpr}
 use Rattle.rst_width.specs.declared.typed_expr.TypedNode.{TypedNode, Row_of-TypedExpr, end_of-TypedExpr, more_of-TypedExpr}
 use Rattle.rst_width.specs.declared.typed_expr.TypedNode.TheVariants as node
+use Rattle.rst_width.specs.declared.typed_expr.TypedNode.TheBlock.{hidden-the_row-TypedExpr-0}
+use Rattle.std.specs.declared.vec.Vec.{Vec}
+use Rattle.std.specs.declared.alloc.Global.{Global}
 
 mutual
   -- an expression with its final width and sign
@@ -55,6 +58,10 @@ abbrev mutual
 
 abbrev pub plain_typed : TypedExpr → Typed
 plain_typed e = typed (sized_as e.width e.signed) (plain_node e.node)
+
+-- the plain forms of what a vector holds
+abbrev pub plain_vec : Vec TypedExpr Global → TypedList
+plain_vec v = plain_row (hidden-the_row-TypedExpr-0 v)
 
 -- the plain forms of a list
 abbrev pub plain_all : List TypedExpr → TypedList

@@ -5,7 +5,7 @@
 //! So each part is typed once, and the work grows with the size of the expression alone.
 #![tactic(auto)]
 
-mod constant;
+mod calls;
 mod parts;
 mod scope;
 mod selects;
@@ -13,6 +13,8 @@ mod sized;
 mod sizing;
 mod typed_expr;
 mod typing;
+mod values;
 
+pub use calls::{constant, size_and_sign, typed, typed_in};
 pub use scope::{Entry, Scope, SignalShape};
 pub use typed_expr::{Shape, TypedExpr, TypedNode, WidthFault};

@@ -1,7 +1,11 @@
 // Typed expressions.
 
-use rst_outside::Name;
+ghost use Rattle.std.specs.Prelude.{◌≡◌};
+ghost use Rattle.rst_width.specs.declared.typed_expr.WidthFault.TheVariants.{NoMemory};
+
+use rst_outside::{Name, NoMemory};
 use rst_word::{BinaryOp, UnaryOp, Word};
+use std::alloc::{AllocError, AllocFailed};
 
 /// A width in bits and a sign.
 #[derive(Clone, Copy, Debug, PartialEq, Eq)]
@@ -69,4 +73,28 @@ pub enum WidthFault {
     ZeroDivisor,
     /// Memory ran out.
     NoMemory,
+}
+
+impl From<AllocError> for WidthFault {
+    ghost from_gives = { λ _ e. e ≡ NoMemory };
+
+    fn from(_: AllocError) -> WidthFault {
+        WidthFault::NoMemory
+    }
+}
+
+impl<T: Drop> From<AllocFailed<T>> for WidthFault {
+    ghost from_gives = { λ _ e. e ≡ NoMemory };
+
+    fn from(_: AllocFailed<T>) -> WidthFault {
+        WidthFault::NoMemory
+    }
+}
+
+impl From<NoMemory> for WidthFault {
+    ghost from_gives = { λ _ e. e ≡ NoMemory };
+
+    fn from(_: NoMemory) -> WidthFault {
+        WidthFault::NoMemory
+    }
 }
