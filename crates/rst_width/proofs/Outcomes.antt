@@ -62,6 +62,6 @@ shape_call s code o e f = same_answer false s code (own s) o e (own_is s code o 
 pub own_when_typed : (s code : Sized) (o : Shape) (t : Typed) → code ≡ cut s → o ≡ own code → in_context false s (own s) ≡ Ok t → o ≡ own s
 own_when_typed s code o t e f is =
     elim (leb_tells (own s).width 64) [
-      inl h ↦ own_is s code o e f ∙ same_when_narrow (own s) h.1
-    | inr h ↦ let no : Err (wide_fault s) ≡ Ok t = sym (wide false s (own s) h.1) ∙ is in cc
+      | inl h ↦ own_is s code o e f ∙ same_when_narrow (own s) h.1
+      | inr h ↦ let no : Err (wide_fault s) ≡ Ok t = sym (wide false s (own s) h.1) ∙ is in cc
     ]

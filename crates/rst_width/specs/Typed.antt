@@ -8,7 +8,6 @@ use Rattle.rst_width.specs.declared.typed_expr.Shape.{Shape}
 use Rattle.rst_width.specs.declared.typed_expr.TypedExpr.{TypedExpr}
 use Rattle.rst_width.specs.declared.typed_expr.TypedNode.{TypedNode, Row_of-TypedExpr, end_of-TypedExpr, more_of-TypedExpr}
 use Rattle.rst_width.specs.declared.typed_expr.TypedNode.TheVariants as node
-
 use Rattle.rst_width.specs.declared.typed_expr.TypedNode.TheBlock.{hidden-the_row-TypedExpr-0}
 use Rattle.std.specs.declared.vec.Vec.{Vec}
 use Rattle.std.specs.declared.alloc.Global.{Global}

@@ -8,11 +8,11 @@ ghost use Rattle.rst_width.specs.Fit.{IsFit};
 ghost use Rattle.rst_width.specs.Scopes.{names_of};
 ghost use Rattle.rst_width.specs.Answers.{Gives, same_shape, shape_answer, typed_answer, placed_answer, constant_answer};
 
-use crate::values::constant_word;
 use crate::scope::Scope;
 use crate::sizing::sized;
 use crate::typed_expr::{Shape, TypedExpr, WidthFault};
 use crate::typing::{in_context, own, walk};
+use crate::values::constant_word;
 use rst_tree::Expr;
 use rst_word::Word;
 use std::alloc::Global;
@@ -82,12 +82,7 @@ pub fn typed_in(
 /// bits.
 ///
 /// The faults are those of `typed`, and each place that names a signal is `NotConstant`.
-pub fn constant(
-    alloc: Global,
-    expr: &Expr,
-    scope: &Scope,
-    context: u8,
-) -> Result<Word, WidthFault>
+pub fn constant(alloc: Global, expr: &Expr, scope: &Scope, context: u8) -> Result<Word, WidthFault>
     requires { context ≤ 64 }
     ensures { Gives plain_word result (constant_answer (names_of scope.now) (plain expr.now) context) }
 {

@@ -8,9 +8,9 @@ ghost use Rattle.rst_width.specs.Steps.{unary_step, binary_step, shift_step, cho
 ghost use Rattle.rst_width.specs.Cut.{IsFitSized, FitsIn};
 ghost use Rattle.rst_width.specs.Fit.{IsFit};
 
-use crate::values::{constant_word, names_signal};
 use crate::sized::{Answer, Found, SizedExpr};
 use crate::typed_expr::{Shape, TypedExpr, TypedNode, WidthFault};
+use crate::values::{constant_word, names_signal};
 use rst_word::{BinaryOp, UnaryOp};
 use std::alloc::{AllocError, Global};
 
@@ -64,12 +64,7 @@ fn brought(
 }
 
 // A leaf in its context.
-fn leaf_in(
-    alloc: Global,
-    shape: Shape,
-    found: Found,
-    context: Shape,
-) -> Result<Answer, AllocError>
+fn leaf_in(alloc: Global, shape: Shape, found: Found, context: Shape) -> Result<Answer, AllocError>
     ensures { IfOk result (λ answer. (tests : Bool) → plain_answer answer ≡ in_context tests (Leaf shape (plain_found found)) context) }
 {
     match found {
@@ -236,11 +231,7 @@ pub fn walk(
 }
 
 // An expression in a context that is at least as wide.
-pub fn in_context(
-    alloc: Global,
-    sized: SizedExpr,
-    context: Shape,
-) -> Result<Answer, AllocError>
+pub fn in_context(alloc: Global, sized: SizedExpr, context: Shape) -> Result<Answer, AllocError>
     requires fit { IsFitSized (plain_sized sized) }
     requires inside { (own (plain_sized sized)).width ≤ context.width }
     ensures exact { IfOk result (λ answer. plain_answer answer ≡ in_context true (plain_sized sized) context) }
