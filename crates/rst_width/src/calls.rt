@@ -1,6 +1,6 @@
 // The calls.
 
-ghost use Rattle.std.specs.Prelude.{◌≡◌, ◌≤◌, IfOk};
+ghost use Rattle.std.specs.Prelude.{◌≡◌, ◌≤◌, max, IfOk};
 ghost use Rattle.rst_word.specs.Plain.{plain_word};
 ghost use Rattle.rst_tree.specs.Trees.{plain};
 ghost use Rattle.rst_width.specs.Typed.{plain_typed};
@@ -17,6 +17,16 @@ use rst_tree::Expr;
 use rst_word::Word;
 use std::alloc::Global;
 
+// The larger of the own width and another one, with the own sign.
+fn widened(own: Shape, width: u8) -> Shape
+    ensures { result ≡ record { width = max own.width width; signed = own.signed } }
+{
+    Shape {
+        width: own.width.max(width),
+        signed: own.signed,
+    }
+}
+
 /// The width and sign that an expression has by itself (IEEE 1364-2001, clauses 4.4.1 and 4.5.1).
 ///
 /// The faults are those of the expression by itself, but for a `ZeroDivisor` where a wider context could change the divisor.
@@ -24,7 +34,7 @@ use std::alloc::Global;
 pub fn size_and_sign(alloc: Global, expr: &Expr, scope: &Scope) -> Result<Shape, WidthFault>
     ensures { Gives same_shape result (shape_answer (names_of scope.now) (plain expr.now)) }
 {
-    let sized = sized(alloc, expr, scope, false)?;
+    let sized = sized(alloc, false, expr, scope)?;
     let shape = own(&sized);
     match walk(alloc, sized, shape, false)? {
         Ok(_) => Ok(shape),
@@ -47,12 +57,8 @@ pub fn typed(
     ensures exact { Gives plain_typed result (typed_answer (names_of scope.now) (plain expr.now) context) }
     ensures fit { IfOk result (λ e. IsFit (plain_typed e)) }
 {
-    let sized = sized(alloc, expr, scope, false)?;
-    let own = own(&sized);
-    let context = Shape {
-        width: own.width.max(context),
-        signed: own.signed,
-    };
+    let sized = sized(alloc, false, expr, scope)?;
+    let context = widened(own(&sized), context);
     in_context(alloc, sized, context)?
 }
 
@@ -70,7 +76,7 @@ pub fn typed_in(
     ensures exact { Gives plain_typed result (placed_answer (names_of scope.now) (plain expr.now) context) }
     ensures fit { IfOk result (λ e. IsFit (plain_typed e)) }
 {
-    let sized = sized(alloc, expr, scope, false)?;
+    let sized = sized(alloc, false, expr, scope)?;
     let context = Shape {
         width: own(&sized).width.max(context.width),
         signed: context.signed,
@@ -86,12 +92,8 @@ pub fn constant(alloc: Global, expr: &Expr, scope: &Scope, context: u8) -> Resul
     requires { context ≤ 64 }
     ensures { Gives plain_word result (constant_answer (names_of scope.now) (plain expr.now) context) }
 {
-    let sized = sized(alloc, expr, scope, true)?;
-    let own = own(&sized);
-    let context = Shape {
-        width: own.width.max(context),
-        signed: own.signed,
-    };
+    let sized = sized(alloc, true, expr, scope)?;
+    let context = widened(own(&sized), context);
     match in_context(alloc, sized, context)? {
         Ok(typed) => Ok(constant_word(&typed)),
         Err(fault) => Err(fault),
