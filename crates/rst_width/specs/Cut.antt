@@ -1,12 +1,13 @@
 -- Sized expressions as the code holds them: 65 stands for every own width above 64.
-use Rattle.std.specs.Prelude.{◌≡◌, ℕ, min, ◌≤◌, ◌<◌, Bool, IfOk}
+use Rattle.std.specs.Prelude.{◌≡◌, ℕ, min, ◌≤◌, ◌<◌, Bool, ◌+◌, Result, Ok, IfOk}
 use Rattle.rst_word.specs.declared.ops.UnaryOp.{UnaryOp}
 use Rattle.rst_word.specs.declared.ops.UnaryOp.TheVariants as unary
 use Rattle.rst_width.specs.declared.typed_expr.Shape.{Shape}
-use Rattle.rst_width.specs.Sized.{Answer, Sized, Found, Leaf, Unary, Binary, Shift, Choose, Earlier, Own, Good}
-use Rattle.rst_width.specs.Sizing.{Arithmetic, Moving, kind_of}
+use Rattle.rst_width.specs.Sized.{Answer, own, by_itself, ◌>>=◌, Sized, Found, Leaf, Unary, Binary, Shift, Choose, Earlier, Own, Good}
+use Rattle.rst_width.specs.Sizing.{Parts, Arithmetic, Moving, kind_of}
 use Rattle.rst_width.specs.Fit.{IsFit, IsFitNode}
-use Rattle.rst_width.specs.Typed.{Typed, sized_as, shape_of}
+use Rattle.rst_width.specs.Typed.{Typed, TypedList, end, more, appended, sized_as, shape_of}
+use Rattle.rst_width.specs.declared.typed_expr.WidthFault.{WidthFault}
 
 abbrev pub cut_width : ℕ → ℕ
 cut_width width = min width 65
@@ -22,6 +23,26 @@ cut (Unary op a) = Unary op (cut a)
 cut (Binary op a b) = Binary op (cut a) (cut b)
 cut (Shift op a amount) = Shift op (cut a) amount
 cut (Choose c a b) = Choose c (cut a) (cut b)
+
+-- parts with a cut width
+abbrev pub cut_parts : Parts → Parts
+cut_parts parts = record { width = cut_width parts.width; list = parts.list }
+
+-- typed parts with one more behind them, if that has no fault
+abbrev pub with_last : TypedList → Answer → Result TypedList WidthFault
+with_last xs last = last >>= λ x. Ok (appended xs x)
+
+-- parts with one more behind them
+abbrev pub with_next : Parts → Sized → Parts
+with_next parts next = record {
+  width = cut_width (parts.width + (own next).width);
+  list = parts.list >>= λ xs. with_last xs (by_itself next);
+}
+
+-- where there are parts, they have a width
+abbrev pub HasWidth : ℕ → TypedList → Type 0
+HasWidth width end = Unit {0}
+HasWidth width (more x xs) = 0 < width
 
 -- the operators with one operand that work in context
 abbrev pub WorksInContext : UnaryOp → Type 0

@@ -27,6 +27,10 @@ word_of n = record { width = n.width; signed = n.signed; value = n.value }
 abbrev pub one_bit : Shape
 one_bit = sized_as 1 false
 
+-- A literal has its own width and sign.
+abbrev pub number_sized : Literal → Sized
+number_sized n = Leaf (sized_as n.width n.signed) (Good (node.Word (word_of n)))
+
 -- A signal or a parameter has the width and sign of its declaration.
 abbrev pub named : Bool → Text → Option Entry → Sized
 named constant name None = Leaf open_shape (Earlier (NoName name))
@@ -76,13 +80,16 @@ kind_of binary.LogicAnd = Deciding
 kind_of binary.LogicOr = Deciding
 kind_of _ = Arithmetic
 
+-- one bit above two operands
+abbrev pub decided : BinaryOp → Answer → Answer → Sized
+decided op a b = Leaf one_bit (above_both a b (λ x y. node.Binary op x y))
+
 abbrev pub binary_sized : Kind → BinaryOp → Sized → Sized → Sized
 binary_sized Arithmetic op a b = Binary op a b
 binary_sized Moving op a b = Shift op a (by_itself b)
 binary_sized Comparing op a b =
-    let both = larger (own a) (own b) in
-    Leaf one_bit (above_both (in_context true a both) (in_context true b both) (λ x y. node.Binary op x y))
-binary_sized Deciding op a b = Leaf one_bit (above_both (by_itself a) (by_itself b) (λ x y. node.Binary op x y))
+    let both = larger (own a) (own b) in decided op (in_context true a both) (in_context true b both)
+binary_sized Deciding op a b = decided op (by_itself a) (by_itself b)
 
 -- Parts that stand by themselves: the sum of their widths, and the parts themselves or the first fault.
 pub record Parts : Type 0 where
@@ -112,6 +119,9 @@ abbrev pub repeat_shape : Option ℤ → ℕ → Shape
 repeat_shape None width = open_shape
 repeat_shape (Some count) width = cond (int_le (pos 1) count) (sized_as (unsigned_abs count * width) false) open_shape
 
+abbrev pub times : ℕ → ℕ → TypedList → Found
+times count width parts = cond (nat_lt 64 (count * width)) (Own TooWide) (Good (node.Repeat count parts))
+
 abbrev pub repeat_found : Option ℤ → ℕ → TypedList → Found
 repeat_found None width parts = Own NotConstant
 repeat_found (Some count) width end = Own ZeroWidth
@@ -140,7 +150,7 @@ part_sized constant name entry high low =
 abbrev mutual
   -- An expression, sized. Where `constant` is true, a signal is NotConstant.
   pub sized : Bool → Names → Tree → Sized
-  sized constant names (tree.Number n) = Leaf (sized_as n.width n.signed) (Good (node.Word (word_of n)))
+  sized constant names (tree.Number n) = number_sized n
   sized constant names (tree.Name n) = named constant n (names n)
   sized constant names (tree.Bit n i) = Leaf one_bit (bit_found constant n (names n) (by_itself (sized constant names i)))
   sized constant names (tree.Part n h l) =

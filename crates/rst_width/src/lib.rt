@@ -6,6 +6,7 @@
 #![tactic(auto)]
 
 mod calls;
+mod parts;
 mod scope;
 mod selects;
 mod sized;

@@ -35,3 +35,15 @@ pub enum Entry {
 pub struct Scope {
     pub entries: IndexMap<Name, Entry>,
 }
+
+impl Scope {
+    ghost use Rattle.std.specs.Prelude.{◌≡◌};
+    ghost use Rattle.rst_width.specs.Scopes.{names_of};
+
+    /// What the name stands for, if it is declared.
+    pub fn entry(&self, name: &Name) -> Option<Entry>
+        ensures { result ≡ names_of self.now name.now }
+    {
+        self.entries.get(name).copied()
+    }
+}
