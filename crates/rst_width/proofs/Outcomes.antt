@@ -41,11 +41,11 @@ own_is : (s code : Sized) (o : Shape) → code ≡ cut s → o ≡ own code → 
 own_is s code o e f = f ∙ ap own e ∙ own-cut s
 
 -- in a context of this width, with the own sign
-pub typed_call : (s code : Sized) (o : Shape) (m c : ℕ) → c ≤ 64 → code ≡ cut s → o ≡ own code → m ≡ max o.width c
-    → in_context true code (record { width = m; signed = o.signed }) ≡ in_context true s (widened s c)
-typed_call s code o m c h e f g =
+pub typed_call : (s code : Sized) (o context : Shape) (c : ℕ) → c ≤ 64 → code ≡ cut s → o ≡ own code → context ≡ record { width = max o.width c; signed = o.signed }
+    → in_context true code context ≡ in_context true s (widened s c)
+typed_call s code o context c h e f g =
     let at = own_is s code o e f in
-    same_answer true s code (widened s c) _ e (rw (g, at) (at_width _ _ (own s).signed (larger_cut (own s).width c h)))
+    same_answer true s code (widened s c) context e (g ∙ rw at (at_width _ _ (own s).signed (larger_cut (own s).width c h)))
 
 -- in a context of this width and sign
 pub placed_call : (s code : Sized) (o context : Shape) (m : ℕ) → context.width ≤ 64 → code ≡ cut s → o ≡ own code → m ≡ max o.width context.width

@@ -1,6 +1,6 @@
 // The calls.
 
-ghost use Rattle.std.specs.Prelude.{◌≡◌, ◌≤◌, IfOk};
+ghost use Rattle.std.specs.Prelude.{◌≡◌, ◌≤◌, max, IfOk};
 ghost use Rattle.rst_word.specs.Plain.{plain_word};
 ghost use Rattle.rst_tree.specs.Trees.{plain};
 ghost use Rattle.rst_width.specs.Typed.{plain_typed};
@@ -16,6 +16,16 @@ use crate::values::constant_word;
 use rst_tree::Expr;
 use rst_word::Word;
 use std::alloc::Global;
+
+// The larger of the own width and another one, with the own sign.
+fn widened(own: Shape, width: u8) -> Shape
+    ensures { result ≡ record { width = max own.width width; signed = own.signed } }
+{
+    Shape {
+        width: own.width.max(width),
+        signed: own.signed,
+    }
+}
 
 /// The width and sign that an expression has by itself (IEEE 1364-2001, clauses 4.4.1 and 4.5.1).
 ///
@@ -48,11 +58,7 @@ pub fn typed(
     ensures fit { IfOk result (λ e. IsFit (plain_typed e)) }
 {
     let sized = sized(alloc, false, expr, scope)?;
-    let own = own(&sized);
-    let context = Shape {
-        width: own.width.max(context),
-        signed: own.signed,
-    };
+    let context = widened(own(&sized), context);
     in_context(alloc, sized, context)?
 }
 
@@ -87,11 +93,7 @@ pub fn constant(alloc: Global, expr: &Expr, scope: &Scope, context: u8) -> Resul
     ensures { Gives plain_word result (constant_answer (names_of scope.now) (plain expr.now) context) }
 {
     let sized = sized(alloc, true, expr, scope)?;
-    let own = own(&sized);
-    let context = Shape {
-        width: own.width.max(context),
-        signed: own.signed,
-    };
+    let context = widened(own(&sized), context);
     match in_context(alloc, sized, context)? {
         Ok(typed) => Ok(constant_word(&typed)),
         Err(fault) => Err(fault),

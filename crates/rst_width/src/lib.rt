@@ -18,3 +18,6 @@ mod values;
 pub use calls::{constant, size_and_sign, typed, typed_in};
 pub use scope::{Entry, Scope, SignalShape};
 pub use typed_expr::{Shape, TypedExpr, TypedNode, WidthFault};
+
+#[cfg(test)]
+mod tests;

@@ -13,13 +13,13 @@ use Rattle.rst_width.proofs.calls.constant.Goals as goal
 pub returns-in-Ok : goal.returns-in-Ok
 returns-in-Ok c =
     let s = sized true (names_of c.args.scope.now) (plain c.args.expr.now) in
-    let is = typed_call s (plain_sized c.in_ok-sized.sized) c.own-own.result c.max.result c.args.context c.requires c.in_ok-sized.ensures.exact c.own-own.ensures c.max.ensures in
+    let is = typed_call s (plain_sized c.in_ok-sized.sized) c.own.result c.widened-context.result c.args.context c.requires c.in_ok-sized.ensures.exact c.own.ensures c.widened-context.ensures in
     let found : in_context true s (widened s c.args.context) ≡ Ok (plain_typed c.in-Ok.typed) = sym is ∙ sym c.in_ok-typed.ensures.exact ∙ ap plain_answer c.in-Ok.is in
     rw found (ap Ok (sym c.constant_word.ensures))
 
 pub returns-in-Err : goal.returns-in-Err
 returns-in-Err c =
     let s = sized true (names_of c.args.scope.now) (plain c.args.expr.now) in
-    let is = typed_call s (plain_sized c.in_ok-sized.sized) c.own-own.result c.max.result c.args.context c.requires c.in_ok-sized.ensures.exact c.own-own.ensures c.max.ensures in
+    let is = typed_call s (plain_sized c.in_ok-sized.sized) c.own.result c.widened-context.result c.args.context c.requires c.in_ok-sized.ensures.exact c.own.ensures c.widened-context.ensures in
     let found : in_context true s (widened s c.args.context) ≡ Err c.in-Err.fault = sym is ∙ sym c.in_ok-typed.ensures.exact ∙ ap plain_answer c.in-Err.is in
     gives_fault plain_word c.in-Err.fault _ (rw found refl)

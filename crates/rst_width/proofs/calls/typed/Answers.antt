@@ -11,5 +11,5 @@ returns-clause-exact c =
     gives_typed c.in_ok-in_context.field-0 _
     (
     c.in_ok-in_context.ensures.exact
-    ∙ typed_call (sized false (names_of c.args.scope.now) (plain c.args.expr.now)) (plain_sized c.in_ok-sized.sized) c.own-own.result c.max.result c.args.context c.requires c.in_ok-sized.ensures.exact c.own-own.ensures c.max.ensures
+    ∙ typed_call (sized false (names_of c.args.scope.now) (plain c.args.expr.now)) (plain_sized c.in_ok-sized.sized) c.own.result c.widened-context.result c.args.context c.requires c.in_ok-sized.ensures.exact c.own.ensures c.widened-context.ensures
     )
