@@ -1,0 +1,9 @@
+pub mod Cuts
+pub mod Fits
+pub mod Outcomes
+pub mod PartLists
+pub mod Rows
+pub mod SizingCuts
+pub mod SizingFits
+pub mod Walks
+pub mod Words

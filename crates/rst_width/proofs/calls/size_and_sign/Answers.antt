@@ -1,0 +1,24 @@
+use Rattle.std.proofs.Common.{◌≡◌, ◌∙◌, false, Ok, Err, refl, sym, ap}
+use Rattle.rst_tree.specs.Trees.{plain}
+use Rattle.rst_width.specs.Typed.{plain_typed}
+use Rattle.rst_width.specs.Scopes.{names_of}
+use Rattle.rst_width.specs.Sizing.{sized}
+use Rattle.rst_width.specs.Sized.{own, in_context}
+use Rattle.rst_width.specs.Answers.{same_shape}
+use Rattle.rst_width.specs.Plain.{plain_sized, plain_answer}
+use Rattle.rst_width.proofs.Outcomes.{gives_fault, shape_call, own_when_typed}
+use Rattle.rst_width.proofs.calls.size_and_sign.Goals as goal
+
+pub returns-in-Ok : goal.returns-in-Ok
+returns-in-Ok c =
+    let s = sized false (names_of c.args.scope.now) (plain c.args.expr.now) in
+    let is = shape_call s (plain_sized c.in_ok-sized.sized) c.own-shape.result c.in_ok-sized.ensures.exact c.own-shape.ensures in
+    let found : in_context false s (own s) ≡ Ok (plain_typed c.in-Ok.field-0) = sym is ∙ sym c.in_ok-walk.ensures ∙ ap plain_answer c.in-Ok.is in
+    rw found (ap Ok (sym (own_when_typed s (plain_sized c.in_ok-sized.sized) c.own-shape.result (plain_typed c.in-Ok.field-0) c.in_ok-sized.ensures.exact c.own-shape.ensures found)))
+
+pub returns : goal.returns
+returns c =
+    let s = sized false (names_of c.args.scope.now) (plain c.args.expr.now) in
+    let is = shape_call s (plain_sized c.in_ok-sized.sized) c.own-shape.result c.in_ok-sized.ensures.exact c.own-shape.ensures in
+    let found : in_context false s (own s) ≡ Err c.in-Err.fault = sym is ∙ sym c.in_ok-walk.ensures ∙ ap plain_answer c.in-Err.is in
+    gives_fault same_shape c.in-Err.fault _ (rw found refl)

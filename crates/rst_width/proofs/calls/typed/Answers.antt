@@ -1,0 +1,15 @@
+use Rattle.std.proofs.Common.{◌∙◌, false}
+use Rattle.rst_tree.specs.Trees.{plain}
+use Rattle.rst_width.specs.Scopes.{names_of}
+use Rattle.rst_width.specs.Sizing.{sized}
+use Rattle.rst_width.specs.Plain.{plain_sized}
+use Rattle.rst_width.proofs.Outcomes.{gives_typed, typed_call}
+use Rattle.rst_width.proofs.calls.typed.Goals as goal
+
+pub returns-clause-exact : goal.returns-clause-exact
+returns-clause-exact c =
+    gives_typed c.in_ok-in_context.field-0 _
+    (
+    c.in_ok-in_context.ensures.exact
+    ∙ typed_call (sized false (names_of c.args.scope.now) (plain c.args.expr.now)) (plain_sized c.in_ok-sized.sized) c.own.result c.widened-context.result c.args.context c.requires c.in_ok-sized.ensures.exact c.own.ensures c.widened-context.ensures
+    )

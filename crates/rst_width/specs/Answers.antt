@@ -1,0 +1,47 @@
+-- What the calls answer.
+use Rattle.std.specs.Prelude.{◌≡◌, ℕ, max, false, true, Result, Ok, Err}
+use Rattle.rst_tree.specs.Trees.{Tree}
+use Rattle.rst_word.specs.Words.{PlainWord}
+use Rattle.rst_width.specs.declared.typed_expr.Shape.{Shape}
+use Rattle.rst_width.specs.declared.typed_expr.WidthFault.{WidthFault}
+use Rattle.rst_width.specs.declared.typed_expr.WidthFault.TheVariants as fault
+use Rattle.rst_width.specs.Scopes.{Names}
+use Rattle.rst_width.specs.Sized.{Answer, Sized, own, in_context, ◌>>=◌}
+use Rattle.rst_width.specs.Sizing.{sized}
+use Rattle.rst_width.specs.Values.{constant_word}
+
+-- The context of an expression that works at the larger of its own width and this one, with its own sign.
+abbrev pub widened : Sized → ℕ → Shape
+widened e width = record { width = max (own e).width width; signed = (own e).signed }
+
+-- The context of an expression that works at the larger of its own width and that of a context from outside, with the sign of that
+-- context.
+abbrev pub placed : Sized → Shape → Shape
+placed e context = record { width = max (own e).width context.width; signed = context.signed }
+
+-- The width and sign of an expression by itself. Its divisors are not looked at, where a wider context could change them.
+abbrev pub shape_answer : Names → Tree → Result Shape WidthFault
+shape_answer names e = let s = sized false names e in in_context false s (own s) >>= λ _. Ok (own s)
+
+-- The typed expression in a context of this width, 0 for none.
+abbrev pub typed_answer : Names → Tree → ℕ → Answer
+typed_answer names e width = let s = sized false names e in in_context true s (widened s width)
+
+-- The typed expression in a context with this width and sign.
+abbrev pub placed_answer : Names → Tree → Shape → Answer
+placed_answer names e context = let s = sized false names e in in_context true s (placed s context)
+
+-- The word of a constant expression in a context of this width, 0 for none.
+abbrev pub constant_answer : Names → Tree → ℕ → Result PlainWord WidthFault
+constant_answer names e width =
+    let s = sized true names e in in_context true s (widened s width) >>= λ t. Ok (constant_word t)
+
+-- What a call answers, seen by `view`, is this answer, unless memory ran out.
+abbrev pub Gives : {X Y : Type 0} → (X → Y) → Result X WidthFault → Result Y WidthFault → Type 0
+Gives view (Ok x) answer = answer ≡ Ok (view x)
+Gives view (Err fault.NoMemory) answer = Unit {0}
+Gives view (Err e) answer = answer ≡ Err e
+
+-- a width and sign, as they stand
+abbrev pub same_shape : Shape → Shape
+same_shape shape = shape

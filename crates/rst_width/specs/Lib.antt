@@ -1,0 +1,12 @@
+pub mod Typed
+pub mod Values
+pub mod Scopes
+pub mod Sized
+pub mod Selects
+pub mod Sizing
+pub mod Plain
+pub mod Answers
+pub mod Fit
+pub mod Cut
+pub mod Fronts
+pub mod Steps

@@ -1,0 +1,310 @@
+// Sizing an expression.
+
+ghost use Rattle.std.specs.Prelude.{◌≡◌, ◌≤◌, IfOk};
+ghost use Rattle.rst_tree.specs.Trees.{plain};
+ghost use Rattle.rst_tree.specs.Trees as tree;
+ghost use Rattle.rst_width.specs.Typed.{plain_typed, plain_node};
+ghost use Rattle.rst_width.specs.Plain.{plain_answer, plain_sized, plain_parts};
+ghost use Rattle.rst_width.specs.Scopes.{names_of};
+ghost use Rattle.rst_width.specs.Sized.{by_itself};
+ghost use Rattle.rst_width.specs.Sizing.{one_bit, Comparing, decided, number_sized, named, part_sized, unary_sized, binary_sized, kind_of, cast_sized, sized, sized_parts};
+ghost use Rattle.rst_width.specs.Cut.{cut, cut_parts, HasWidth, IsFitSized};
+ghost use Rattle.rst_width.specs.Fit.{IsFit};
+
+use crate::parts::{Parts, join_sized, repeat_sized, with_next};
+use crate::scope::{Entry, Scope};
+use crate::selects::{bit_found, number_of_part, part_found, part_shape, signal_at};
+use crate::sized::{Answer, Found, SizedExpr};
+use crate::typed_expr::{Shape, TypedExpr, TypedNode, WidthFault};
+use crate::typing::{by_itself, in_context, larger, own};
+use rst_lex::Literal;
+use rst_outside::{Name, NoMemory};
+use rst_tree::Expr;
+use rst_word::{BinaryOp, UnaryOp, Word};
+use std::alloc::{AllocError, Global};
+
+// One unsigned bit.
+fn one_bit() -> Shape
+    ensures { result ≡ one_bit }
+{
+    Shape {
+        width: 1,
+        signed: false,
+    }
+}
+
+// A literal has its own width and sign.
+fn number_sized(number: Literal) -> SizedExpr
+    ensures { plain_sized result ≡ number_sized number }
+{
+    let shape = Shape {
+        width: number.width,
+        signed: number.signed,
+    };
+    let word = Word::new(number.width, number.signed, number.value);
+    SizedExpr::Leaf(shape, Found::Good(TypedNode::Word(word)))
+}
+
+// A signal or a parameter has the width and sign of its declaration.
+fn named(
+    alloc: Global,
+    constant: bool,
+    name: &Name,
+    entry: Option<Entry>,
+) -> Result<SizedExpr, NoMemory>
+    ensures { IfOk result (λ s. plain_sized s ≡ named constant name.now entry) }
+{
+    match entry {
+        None => {
+            let shape = Shape {
+                width: 0,
+                signed: true,
+            };
+            let name = Name::new(alloc, name.as_slice())?;
+            let found = Found::Earlier(WidthFault::NoName(name));
+            Ok(SizedExpr::Leaf(shape, found))
+        }
+        Some(Entry::Signal(signal, declared)) => {
+            let shape = Shape {
+                width: declared.width,
+                signed: declared.signed,
+            };
+            let found = signal_at(constant, TypedNode::Signal(signal));
+            Ok(SizedExpr::Leaf(shape, found))
+        }
+        Some(Entry::Param(word)) => {
+            let shape = Shape {
+                width: word.width,
+                signed: word.signed,
+            };
+            Ok(SizedExpr::Leaf(shape, Found::Good(TypedNode::Word(word))))
+        }
+    }
+}
+
+// A part-select.
+fn part_sized(
+    alloc: Global,
+    constant: bool,
+    name: &Name,
+    entry: Option<Entry>,
+    high: Answer,
+    low: Answer,
+) -> Result<SizedExpr, NoMemory>
+    requires high_fits { IfOk high (λ e. IsFit (plain_typed e)) }
+    requires low_fits { IfOk low (λ e. IsFit (plain_typed e)) }
+    ensures { IfOk result (λ s. plain_sized s ≡ cut (part_sized constant name.now entry (plain_answer high) (plain_answer low))) }
+{
+    let shape = part_shape(number_of_part(&high), number_of_part(&low));
+    let found = part_found(alloc, constant, name, entry, high, low)?;
+    Ok(SizedExpr::Leaf(shape, found))
+}
+
+// An operator with one operand. `!` and the reductions take it by itself, the others in context.
+fn unary_sized(alloc: Global, op: UnaryOp, operand: SizedExpr) -> Result<SizedExpr, AllocError>
+    requires { IsFitSized (plain_sized operand) }
+    ensures { IfOk result (λ s. plain_sized s ≡ unary_sized op (plain_sized operand)) }
+{
+    match op {
+        UnaryOp::Plus | UnaryOp::Minus | UnaryOp::Invert => {
+            Ok(SizedExpr::Unary(op, Box::new(alloc, operand)?))
+        }
+        _ => {
+            let found = match by_itself(alloc, operand)? {
+                Ok(operand) => Found::Good(TypedNode::Unary(op, Box::new(alloc, operand)?)),
+                Err(fault) => Found::Earlier(fault),
+            };
+            Ok(SizedExpr::Leaf(one_bit(), found))
+        }
+    }
+}
+
+// An operator above two operands that are typed, or the first fault of them.
+fn above_both(
+    alloc: Global,
+    op: BinaryOp,
+    left: Answer,
+    right: Answer,
+) -> Result<SizedExpr, AllocError>
+    ensures { IfOk result (λ s. plain_sized s ≡ decided op (plain_answer left) (plain_answer right)) }
+{
+    let found = match (left, right) {
+        (Err(fault), _) => Found::Earlier(fault),
+        (Ok(_), Err(fault)) => Found::Earlier(fault),
+        (Ok(left), Ok(right)) => {
+            let left = Box::new(alloc, left)?;
+            Found::Good(TypedNode::Binary(op, left, Box::new(alloc, right)?))
+        }
+    };
+    Ok(SizedExpr::Leaf(one_bit(), found))
+}
+
+// A comparison, whose operands are sized to the larger of the two.
+fn compared(
+    alloc: Global,
+    op: BinaryOp,
+    left: SizedExpr,
+    right: SizedExpr,
+) -> Result<SizedExpr, AllocError>
+    requires left { IsFitSized (plain_sized left) }
+    requires right { IsFitSized (plain_sized right) }
+    ensures { IfOk result (λ s. plain_sized s ≡ binary_sized Comparing op (plain_sized left) (plain_sized right)) }
+{
+    let both = larger(own(&left), own(&right));
+    let left = in_context(alloc, left, both)?;
+    let right = in_context(alloc, right, both)?;
+    above_both(alloc, op, left, right)
+}
+
+// An operator with two operands.
+fn binary_sized(
+    alloc: Global,
+    op: BinaryOp,
+    left: SizedExpr,
+    right: SizedExpr,
+) -> Result<SizedExpr, AllocError>
+    requires left { IsFitSized (plain_sized left) }
+    requires right { IsFitSized (plain_sized right) }
+    ensures { IfOk result (λ s. plain_sized s ≡ binary_sized (kind_of op) op (plain_sized left) (plain_sized right)) }
+{
+    match op {
+        BinaryOp::Shl | BinaryOp::Shr | BinaryOp::ArithShl | BinaryOp::ArithShr => {
+            let amount = by_itself(alloc, right)?;
+            Ok(SizedExpr::Shift(op, Box::new(alloc, left)?, amount))
+        }
+        BinaryOp::Lt | BinaryOp::Le | BinaryOp::Gt | BinaryOp::Ge | BinaryOp::Eq | BinaryOp::Ne =>
+            compared(alloc, op, left, right),
+        BinaryOp::LogicAnd | BinaryOp::LogicOr => {
+            let left = by_itself(alloc, left)?;
+            above_both(alloc, op, left, by_itself(alloc, right)?)
+        }
+        _ => {
+            let left = Box::new(alloc, left)?;
+            Ok(SizedExpr::Binary(op, left, Box::new(alloc, right)?))
+        }
+    }
+}
+
+// `$signed(e)` and `$unsigned(e)`.
+fn cast_sized(alloc: Global, signed: bool, inner: SizedExpr) -> Result<SizedExpr, AllocError>
+    requires { IsFitSized (plain_sized inner) }
+    ensures { IfOk result (λ s. plain_sized s ≡ cast_sized signed (plain_sized inner)) }
+{
+    let shape = Shape {
+        width: own(&inner).width,
+        signed,
+    };
+    let found = match by_itself(alloc, inner)? {
+        Ok(inner) => Found::Good(TypedNode::Sign(Box::new(alloc, inner)?)),
+        Err(fault) => Found::Earlier(fault),
+    };
+    Ok(SizedExpr::Leaf(shape, found))
+}
+
+// An expression, sized. Where `constant` is true, a signal is NotConstant.
+#[cycle(sizing)]
+pub fn sized(
+    alloc: Global,
+    constant: bool,
+    expr: &Expr,
+    scope: &Scope,
+) -> Result<SizedExpr, NoMemory>
+    ensures exact { IfOk result (λ s. plain_sized s ≡ cut (sized constant (names_of scope.now) (plain expr.now))) }
+    ensures fit { IfOk result (λ s. IsFitSized (plain_sized s)) }
+{
+    sized_node(alloc, constant, expr, scope)
+}
+
+#[cycle(sizing)]
+#[tactic(auto, using(crate::proofs::SizingCuts::sizing_cuts))]
+fn sized_node(
+    alloc: Global,
+    constant: bool,
+    expr: &Expr,
+    scope: &Scope,
+) -> Result<SizedExpr, NoMemory>
+    ensures { IfOk result (λ s. plain_sized s ≡ cut (sized constant (names_of scope.now) (plain expr.now))) }
+{
+    match expr {
+        Expr::Number(number) => Ok(number_sized(*number)),
+        Expr::Name(name) => named(alloc, constant, name, scope.entry(name)),
+        Expr::Bit(name, index) => {
+            let index = sized_by_itself(alloc, constant, index, scope)?;
+            let found = bit_found(alloc, constant, name, scope.entry(name), index)?;
+            Ok(SizedExpr::Leaf(one_bit(), found))
+        }
+        Expr::Part(name, high, low) => {
+            let high = sized_by_itself(alloc, constant, high, scope)?;
+            let low = sized_by_itself(alloc, constant, low, scope)?;
+            part_sized(alloc, constant, name, scope.entry(name), high, low)
+        }
+        Expr::Paren(inner) => sized_node(alloc, constant, inner, scope),
+        Expr::Unary(op, operand) => {
+            let operand = sized(alloc, constant, operand, scope)?;
+            Ok(unary_sized(alloc, *op, operand)?)
+        }
+        Expr::Binary(op, left, right) => {
+            let left = sized(alloc, constant, left, scope)?;
+            let right = sized(alloc, constant, right, scope)?;
+            Ok(binary_sized(alloc, *op, left, right)?)
+        }
+        Expr::Choose(test, yes, no) => {
+            let test = sized_by_itself(alloc, constant, test, scope)?;
+            let yes = Box::new(alloc, sized_node(alloc, constant, yes, scope)?)?;
+            let no = sized_node(alloc, constant, no, scope)?;
+            Ok(SizedExpr::Choose(test, yes, Box::new(alloc, no)?))
+        }
+        Expr::Join(parts) => Ok(join_sized(sized_parts(alloc, constant, parts, scope)?)),
+        Expr::Repeat(count, parts) => {
+            let count = sized_by_itself(alloc, constant, count, scope)?;
+            let parts = sized_parts(alloc, constant, parts, scope)?;
+            Ok(repeat_sized(count, parts))
+        }
+        Expr::Signed(inner) => {
+            let inner = sized(alloc, constant, inner, scope)?;
+            Ok(cast_sized(alloc, true, inner)?)
+        }
+        Expr::Unsigned(inner) => {
+            let inner = sized(alloc, constant, inner, scope)?;
+            Ok(cast_sized(alloc, false, inner)?)
+        }
+    }
+}
+
+// An expression by itself.
+#[cycle(sizing)]
+#[tactic(auto, using(crate::proofs::SizingCuts::sizing_cuts))]
+fn sized_by_itself(
+    alloc: Global,
+    constant: bool,
+    expr: &Expr,
+    scope: &Scope,
+) -> Result<Answer, NoMemory>
+    ensures exact { IfOk result (λ answer. plain_answer answer ≡ by_itself (sized constant (names_of scope.now) (plain expr.now))) }
+    ensures fit { IfOk result (λ answer. IfOk answer (λ e. IsFit (plain_typed e))) }
+{
+    let sized = sized(alloc, constant, expr, scope)?;
+    Ok(by_itself(alloc, sized)?)
+}
+
+// The parts of a join or a repetition.
+#[cycle(sizing)]
+fn sized_parts(
+    alloc: Global,
+    constant: bool,
+    exprs: &[Expr],
+    scope: &Scope,
+) -> Result<Parts, NoMemory>
+    ensures exact { IfOk result (λ p. plain_parts p ≡ cut_parts (sized_parts constant (names_of scope.now) (tree.plain_all exprs.now))) }
+    ensures has_width { IfOk result (λ p. IfOk (plain_parts p).list (HasWidth p.width)) }
+{
+    let mut parts = Parts {
+        width: 0,
+        list: Ok(Vec::new(alloc)),
+    };
+    for expr in exprs {
+        let next = sized(alloc, constant, expr, scope)?;
+        parts = with_next(alloc, parts, next)?;
+    }
+    Ok(parts)
+}
