@@ -71,8 +71,10 @@ join_is target ts = regrouped (target ts) (λ first. more_targets target (length
   where
     joined : Places → List Symbol → Option (Place × List Symbol)
     joined all behind = Some (targets.Join all, behind)
+
     one_list : Place → Places × List Symbol → Option (Places × List Symbol)
     one_list first others = Some (targets.more first others.0, others.1)
+
     closed : Places × List Symbol → Option (Place × List Symbol)
     closed all = after terminal.CloseBrace all.1 >>= λ behind. joined all.0 behind
 

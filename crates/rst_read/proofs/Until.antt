@@ -92,21 +92,21 @@ endcase_is (s ∷ ts) next e = absurd cc
 -- with labels, no default is used up
 labels_next : (below : Readers) (stmt : StmtReader) (wild : Bool) (j most : ℕ) (ts : List Symbol)
     → (labels_in below wild ts >>= λ es. after terminal.Colon es.1 >>= λ behind. stmt behind >>= λ s. arms_in below stmt wild j most s.1 >>= λ others. Some (labels es.0 s.0 others.0, others.1))
-        ≡ (labelled_in below stmt wild ts >>= λ a. with_first of_arms a.0 (arms_in below stmt wild j (most - defaults a.0) a.1))
+    ≡ (labelled_in below stmt wild ts >>= λ a. with_first of_arms a.0 (arms_in below stmt wild j (most - defaults a.0) a.1))
 unfolding labelled_in
 labels_next below stmt wild j most ts =
     regrouped (labels_in below wild ts) (λ es. after terminal.Colon es.1 >>= λ behind. stmt behind >>= λ s. Some (labels es.0 s.0 no_arm, s.1)) (λ a. with_first of_arms a.0 (arms_in below stmt wild j (most - defaults a.0) a.1)) _ (λ es.
-        regrouped (after terminal.Colon es.1) (λ behind. stmt behind >>= λ s. Some (labels es.0 s.0 no_arm, s.1)) (λ a. with_first of_arms a.0 (arms_in below stmt wild j (most - defaults a.0) a.1)) _ (λ behind.
-            regrouped (stmt behind) (λ s. Some (labels es.0 s.0 no_arm, s.1)) (λ a. with_first of_arms a.0 (arms_in below stmt wild j (most - defaults a.0) a.1)) _ (λ s.
-                ap (λ n. arms_in below stmt wild j n s.1 >>= λ others. Some (labels es.0 s.0 others.0, others.1)) (omega arith))))
+    regrouped (after terminal.Colon es.1) (λ behind. stmt behind >>= λ s. Some (labels es.0 s.0 no_arm, s.1)) (λ a. with_first of_arms a.0 (arms_in below stmt wild j (most - defaults a.0) a.1)) _ (λ behind.
+    regrouped (stmt behind) (λ s. Some (labels es.0 s.0 no_arm, s.1)) (λ a. with_first of_arms a.0 (arms_in below stmt wild j (most - defaults a.0) a.1)) _ (λ s.
+    ap (λ n. arms_in below stmt wild j n s.1 >>= λ others. Some (labels es.0 s.0 others.0, others.1)) (omega arith))))
 
 default_next : (below : Readers) (stmt : StmtReader) (wild : Bool) (j most : ℕ) (ts : List Symbol)
     → (stmt (default_colon ts) >>= λ s. arms_in below stmt wild j most s.1 >>= λ others. Some (otherwise s.0 others.0, others.1))
-        ≡ (default_in stmt ts >>= λ a. with_first of_arms a.0 (arms_in below stmt wild j (suc most - defaults a.0) a.1))
+    ≡ (default_in stmt ts >>= λ a. with_first of_arms a.0 (arms_in below stmt wild j (suc most - defaults a.0) a.1))
 unfolding default_in
 default_next below stmt wild j most ts =
     regrouped (stmt (default_colon ts)) (λ s. Some (otherwise s.0 no_arm, s.1)) (λ a. with_first of_arms a.0 (arms_in below stmt wild j (suc most - defaults a.0) a.1)) _ (λ s.
-        ap (λ n. arms_in below stmt wild j n s.1 >>= λ others. Some (otherwise s.0 others.0, others.1)) (omega arith))
+    ap (λ n. arms_in below stmt wild j n s.1 >>= λ others. Some (otherwise s.0 others.0, others.1)) (omega arith))
 
 -- one arm, and those behind it
 arms_next : (below : Readers) (stmt : StmtReader) (wild : Bool) (j most : ℕ) (ts : List Symbol) → after terminal.Endcase ts ≡ None

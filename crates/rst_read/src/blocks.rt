@@ -36,14 +36,15 @@ pub fn if_else(alloc: Global, test: Expr, yes: Stmt, no: Stmt) -> Result<Stmt, A
 pub fn case_of(wild: bool, selector: Expr, arms: Vec<Arm>) -> Stmt
     ensures { plain_stmt result ≡ Case wild (plain selector) (plain_arms arms.items) }
 {
-    Stmt::Case(CaseStmt { wild, selector, arms })
+    Stmt::Case(CaseStmt {
+        wild,
+        selector,
+        arms,
+    })
 }
 
 // No statement, and the symbols behind it.
-pub fn no_stmts<'s, 'a>(
-    alloc: Global,
-    rest: &'s [Symbol<'a>],
-) -> (ManyStmts, &'s [Symbol<'a>])
+pub fn no_stmts<'s, 'a>(alloc: Global, rest: &'s [Symbol<'a>]) -> (ManyStmts, &'s [Symbol<'a>])
     ensures stmts { plain_stmts result.0.stmts.items ≡ end }
     ensures depth { result.0.depth ≡ 0 }
     ensures behind { result.1.now ≡ rest.now }
@@ -70,7 +71,11 @@ pub fn labelled_arm(labels: Many, body: ParsedStmt) -> ParsedArm
 {
     let depth = labels.depth.max(body.depth);
     let arm = Arm::Labels(labels.trees, body.stmt);
-    ParsedArm { arm, depth, default_count: 0 }
+    ParsedArm {
+        arm,
+        depth,
+        default_count: 0,
+    }
 }
 
 // The default.
@@ -80,7 +85,11 @@ pub fn default_arm(body: ParsedStmt) -> ParsedArm
 {
     let depth = body.depth;
     let arm = Arm::Otherwise(body.stmt);
-    ParsedArm { arm, depth, default_count: 1 }
+    ParsedArm {
+        arm,
+        depth,
+        default_count: 1,
+    }
 }
 
 // How many defaults may come behind so many more.

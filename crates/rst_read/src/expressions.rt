@@ -7,7 +7,7 @@ ghost use Rattle.rst_grammar.specs.Reading.{with_right, part_end, select_end, na
 ghost use Rattle.rst_read.specs.Gives.{Gives, seen, seen_all};
 
 use crate::operators::{level, operator_at, unary_of};
-use crate::parsed::{Many, Parsed};
+use crate::parsed::{MOST_HEIGHT, Many, Parsed};
 use crate::stop::Stop;
 use crate::terminals::{after, behind};
 use crate::trees::{alone, and, binary_tree, joined, repeated};
@@ -23,7 +23,11 @@ pub type Answer<'s, 'a> = Result<(Parsed, &'s [Symbol<'a>]), Stop>;
 
 /// The expression in front, of a height of at most `limit`.
 #[cycle(read)]
-pub fn read_expression<'s, 'a>(alloc: Global, symbols: &'s [Symbol<'a>], limit: u8) -> Answer<'s, 'a>
+pub fn read_expression<'s, 'a>(
+    alloc: Global,
+    symbols: &'s [Symbol<'a>],
+    limit: u8,
+) -> Answer<'s, 'a>
     ensures reads { Gives seen result ((readers limit).full symbols.now) }
     ensures within { IfOk result (λ x. x.0.depth ≤ limit) }
 {
@@ -396,7 +400,7 @@ pub fn expression<'a>(alloc: Global, symbols: &[Symbol<'a>]) -> Result<Expr, Sto
     // What is spelled so is read, unless memory runs out.
     ensures only { (e : Tree) → Spells e symbols.now → height e ≤ 200 → Gives plain result (Some e) }
 {
-    let (found, rest) = read_expression(alloc, symbols, 200)?;
+    let (found, rest) = read_expression(alloc, symbols, MOST_HEIGHT)?;
     if !rest.is_empty() {
         return Err(Stop::NoTree);
     }

@@ -17,10 +17,7 @@ use rst_tree::Expr;
 use std::alloc::Global;
 
 /// The literal with masked bits in front, under `casez`.
-fn masked_at<'s, 'a>(
-    wild: bool,
-    symbols: &'s [Symbol<'a>],
-) -> Option<(Literal, &'s [Symbol<'a>])>
+fn masked_at<'s, 'a>(wild: bool, symbols: &'s [Symbol<'a>]) -> Option<(Literal, &'s [Symbol<'a>])>
     ensures { option_map (λ x. (x.0, x.1.now)) result ≡ masked_at wild symbols.now }
 {
     let [first, rest @ ..] = symbols else {

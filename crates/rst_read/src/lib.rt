@@ -13,14 +13,13 @@ mod terminals;
 mod trees;
 
 pub use expressions::{Answer, expression, read_expression};
-pub use parsed::{Many, Parsed, ParsedStmt, ParsedTarget};
+pub use parsed::{MOST_HEIGHT, Many, Parsed, ParsedStmt, ParsedTarget};
 pub use statements::{StmtAnswer, read_statement, statement};
 pub use stop::Stop;
 pub use targets::{TargetAnswer, read_target};
 pub use terminals::{after, behind};
 
 #[cfg(test)]
-mod tests;
-
-#[cfg(test)]
 mod statement_tests;
+#[cfg(test)]
+mod tests;

@@ -74,7 +74,10 @@ pub fn level(op: BinaryOp) -> u8
 
 /// The operator in front, if it is of this level or a tighter one.
 #[tactic(auto, unfolding(rst_grammar::specs::Reading::operator_at))]
-pub fn operator_at<'s, 'a>(symbols: &'s [Symbol<'a>], least: u8) -> Option<(BinaryOp, &'s [Symbol<'a>])>
+pub fn operator_at<'s, 'a>(
+    symbols: &'s [Symbol<'a>],
+    least: u8,
+) -> Option<(BinaryOp, &'s [Symbol<'a>])>
     ensures { option_map (λ x. (x.0, x.1.now)) result ≡ operator_at least symbols.now }
 {
     let (first, rest) = symbols.split_first()?;
@@ -88,4 +91,3 @@ pub fn operator_at<'s, 'a>(symbols: &'s [Symbol<'a>], least: u8) -> Option<(Bina
         None
     }
 }
-

@@ -8,6 +8,9 @@ ghost use Rattle.rst_grammar.specs.Statements.{defaults};
 
 use rst_tree::{Arm, Expr, Stmt, Target};
 
+/// The greatest height of an expression, a target or a statement, counted in nodes.
+pub const MOST_HEIGHT: u8 = 200;
+
 /// An expression with its height.
 #[derive(Drop)]
 pub struct Parsed {

@@ -1,4 +1,6 @@
-use crate::{Stop, after, behind, read_expression, read_statement, read_target, statement};
+use crate::{
+    MOST_HEIGHT, Stop, after, behind, read_expression, read_statement, read_target, statement,
+};
 use rst_grammar::{NameText, Symbol, Terminal};
 use rst_lex::Literal;
 use rst_tree::{Expr, Stmt, Target};
@@ -119,12 +121,7 @@ fn blocks(rt: HostRuntime) -> Result<(), Fail> {
 }
 
 // Whether there is a statement that begins so many times with the one piece and ends so with the other.
-fn has_statement(
-    alloc: Global,
-    times: u32,
-    front: &[u8],
-    back: &[u8],
-) -> Result<bool, AllocError> {
+fn has_statement(alloc: Global, times: u32, front: &[u8], back: &[u8]) -> Result<bool, AllocError> {
     let mut all = symbols(alloc, front, times)?;
     all.push(symbol(b';'))?;
     for behind in symbols(alloc, back, times)? {
@@ -146,25 +143,41 @@ fn nesting(rt: HostRuntime) -> Result<(), Fail> {
     Ok(())
 }
 
-// What stands in front, its height, and how many symbols stand behind it.
+// What stands in front, with its height, and what stands behind it.
 #[test]
-fn in_front(rt: HostRuntime) -> Result<(), Fail> {
+fn expression_in_front(rt: HostRuntime) -> Result<(), Fail> {
     let alloc = rt.alloc();
-    let expression = symbols(alloc, b"(a);", 1)?;
-    let (inner, rest) = read_expression(alloc, &expression, 200)?;
+    let symbols = symbols(alloc, b"(a);", 1)?;
+    let (inner, rest) = read_expression(alloc, &symbols, MOST_HEIGHT)?;
     assert_eq!(rt; inner.depth, 2);
-    assert_eq!(rt; rest.len(), 1);
-    let join = symbols(alloc, b"{a,a[a],a[a:a]}=", 1)?;
-    let (target, rest) = read_target(alloc, &join, 200)?;
-    assert_eq!(rt; target.depth, 3);
-    assert!(rt; behind(rest, Terminal::Equal).is_some());
-    let Target::Join(parts) = target.target else {
-        return Err(Fail::new("another tree"));
-    };
-    assert_eq!(rt; parts.len(), 3);
-    let two = symbols(alloc, b";;", 1)?;
-    let (empty, rest) = read_statement(alloc, &two, 1)?;
-    assert_eq!(rt; empty.depth, 1);
     assert_eq!(rt; after(rest, Terminal::Semicolon)?.len(), 0);
+    Ok(())
+}
+
+fn parts(target: &Target) -> usize {
+    match target {
+        Target::Join(parts) => parts.len(),
+        _ => 1,
+    }
+}
+
+#[test]
+fn target_in_front(rt: HostRuntime) -> Result<(), Fail> {
+    let alloc = rt.alloc();
+    let symbols = symbols(alloc, b"{a,a[a],a[a:a]}=", 1)?;
+    let (join, rest) = read_target(alloc, &symbols, MOST_HEIGHT)?;
+    assert_eq!(rt; join.depth, 3);
+    assert_eq!(rt; parts(&join.target), 3);
+    assert!(rt; behind(rest, Terminal::Equal).is_some());
+    Ok(())
+}
+
+#[test]
+fn statement_in_front(rt: HostRuntime) -> Result<(), Fail> {
+    let alloc = rt.alloc();
+    let symbols = symbols(alloc, b";;", 1)?;
+    let (empty, rest) = read_statement(alloc, &symbols, 1)?;
+    assert_eq!(rt; empty.depth, 1);
+    assert_eq!(rt; rest.len(), 1);
     Ok(())
 }

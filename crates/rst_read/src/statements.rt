@@ -10,10 +10,13 @@ ghost use Rattle.rst_grammar.specs.ReadStatement.{target_reader, assignment_at, 
 ghost use Rattle.rst_read.specs.Gives.{Gives, seen_stmt, seen_stmts, seen_arm, seen_arms};
 ghost use Rattle.rst_read.specs.Parts.{default_in, labelled_in, arm_in};
 
-use crate::blocks::{and, and_arm, block, case_of, default_arm, defaults_left, if_alone, if_else, labelled_arm, no_arms, no_stmts};
+use crate::blocks::{
+    and, and_arm, block, case_of, default_arm, defaults_left, if_alone, if_else, labelled_arm,
+    no_arms, no_stmts,
+};
 use crate::expressions::read_expression;
 use crate::labels::{default_colon, labels_in};
-use crate::parsed::{ManyArms, ManyStmts, Parsed, ParsedArm, ParsedStmt};
+use crate::parsed::{MOST_HEIGHT, ManyArms, ManyStmts, Parsed, ParsedArm, ParsedStmt};
 use crate::stop::Stop;
 use crate::targets::read_target;
 use crate::terminals::{after, behind};
@@ -82,7 +85,11 @@ fn set_in<'s, 'a>(alloc: Global, symbols: &'s [Symbol<'a>], below: u8) -> StmtAn
     let (value, rest) = read_expression(alloc, rest, below)?;
     let rest = after(rest, Terminal::Semicolon)?;
     let depth = target.depth.max(value.depth) + 1;
-    let stmt = Stmt::Set(SetStmt { target: target.target, value: value.tree, blocking });
+    let stmt = Stmt::Set(SetStmt {
+        target: target.target,
+        value: value.tree,
+        blocking,
+    });
     Ok((ParsedStmt { stmt, depth }, rest))
 }
 
@@ -303,7 +310,7 @@ pub fn statement<'a>(alloc: Global, symbols: &[Symbol<'a>]) -> Result<Stmt, Stop
     // What is spelled so is read, unless memory runs out.
     ensures only { (s : Statement) → SpellsStmt s symbols.now → height_of s ≤ 200 → Gives plain_stmt result (Some s) }
 {
-    let (found, rest) = read_statement(alloc, symbols, 200)?;
+    let (found, rest) = read_statement(alloc, symbols, MOST_HEIGHT)?;
     if !rest.is_empty() {
         return Err(Stop::NoTree);
     }

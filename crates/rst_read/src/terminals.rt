@@ -42,4 +42,3 @@ pub fn after<'s, 'a>(
         None => Err(Stop::NoTree),
     }
 }
-

@@ -59,4 +59,3 @@ pub fn and(all: Many, next: Parsed) -> Result<Many, AllocError>
     trees.push(next.tree)?;
     Ok(Many { trees, depth })
 }
-
