@@ -1,5 +1,5 @@
 -- What stands in front of a text, and how productions in a row part it.
-use Rattle.std.proofs.Common.{◌≡◌, ◌∙◌, ◌≤◌, length, length-append, arith, List, [], ◌∷◌, ◌++◌, refl, sym, ap, append_assoc}
+use Rattle.std.proofs.Common.{◌≡◌, ◌∙◌, ◌≤◌, length, length-append, arith, List, [], ◌∷◌, ◌++◌, refl, sym, ap, subst, append_assoc}
 use Rattle.std.proofs.lemmas.List.{append-nil}
 use Rattle.rst_grammar.specs.declared.symbol.Symbol.{Symbol}
 use Rattle.rst_grammar.specs.Says.{Nothing, One, Then}
@@ -43,6 +43,12 @@ nothing_front ts = record { text = []; parts = refl; says = record { is = refl }
 
 pub whole : {P : List Symbol → Type 0} (ts : List Symbol) → P ts → Front P ts []
 whole ts p = record { text = ts; parts = sym (append-nil ts); says = p }
+
+-- nothing behind it
+pub whole_of : {P : List Symbol → Type 0} (ts rest : List Symbol) → Front P ts rest → rest ≡ [] → P ts
+whole_of {P = P} ts rest f none =
+    let text-is : ts ≡ f.text = f.parts ∙ ap (λ t. f.text ++ t) none ∙ append-nil f.text in
+    subst P (sym text-is) f.says
 
 -- what is left is no longer
 pub no_longer : {P : List Symbol → Type 0} {ts rest : List Symbol} → Front P ts rest → length rest ≤ length ts

@@ -5,3 +5,11 @@ pub mod TakesTargets
 pub mod TakesStatements
 pub mod Terminals
 pub mod Sound
+pub mod SoundTargets
+pub mod SoundStatements
+pub mod Exact
+pub mod ExactLists
+pub mod ExactDeclarations
+pub mod ExactLinks
+pub mod ExactItems
+pub mod ExactModules

@@ -34,10 +34,10 @@ pub some_is : {A : Type 0} (x y : A) → Some x ≡ Some y → x ≡ y
 some_is x y e = cc
 
 -- one more symbol in front
-quoted_front : (t : Terminal) (rest : List Symbol) → Front (quoted t) (symbol.Terminal t ∷ rest) rest
+pub quoted_front : (t : Terminal) (rest : List Symbol) → Front (quoted t) (symbol.Terminal t ∷ rest) rest
 quoted_front t rest = one_front refl
 
-after_front : (t : Terminal) (ts rest : List Symbol) → after t ts ≡ Some rest → Front (quoted t) ts rest
+pub after_front : (t : Terminal) (ts rest : List Symbol) → after t ts ≡ Some rest → Front (quoted t) ts rest
 after_front t ts rest e = one_front (after_is t ts rest e)
 
 -- commas and trees, of height h at most

@@ -617,6 +617,10 @@ mutual
   arms_take (labels es s others) = labels_all es s others (stmt_takes s) (arms_take others)
   arms_take (otherwise s others) = default_all s others (stmt_takes s) (arms_take others)
 
+-- What spells a statement is read up to its end, where no `else` follows one that ends in an `if` without an `else`.
+pub stmt_front_takes : (h : ℕ) (ts rest : List Symbol) (s : Statement) → Front (SpellsStmt s) ts rest → height_of s ≤ h → (ends_open s ≡ true → NoElse rest) → stmt_reader h ts ≡ Some (s, rest)
+stmt_front_takes h ts rest s = stmt_takes s ts rest h
+
 -- A list of symbols has at most one statement.
 pub one_statement : (s t : Statement) (ts : List Symbol) → SpellsStmt s ts → SpellsStmt t ts → s ≡ t
 one_statement s t ts p q =

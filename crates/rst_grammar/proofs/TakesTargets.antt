@@ -18,8 +18,17 @@ use Rattle.rst_grammar.proofs.Takes.{full_takes}
 abbrev pub NoBracket : List Symbol → Type 0
 NoBracket ts = after terminal.OpenBracket ts ≡ None
 
+-- Where a target may end: behind a bare name no select goes on. Any other target has its closing mark, so anything may follow.
+abbrev pub TargetEnds : Place → List Symbol → Type 0
+TargetEnds (Whole n) rest = NoBracket rest
+TargetEnds t rest = Unit {0}
+
+pub target_ends : (t : Place) (rest : List Symbol) → NoBracket rest → TargetEnds t rest
+target_ends (Whole n) rest next = next
+target_ends t rest next = tt
+
 abbrev TargetTakes : Place → Type 0
-TargetTakes t = (ts rest : List Symbol) (h : ℕ) → Front (SpellsTarget t) ts rest → height_of_target t ≤ h → NoBracket rest → target_reader h ts ≡ Some (t, rest)
+TargetTakes t = (ts rest : List Symbol) (h : ℕ) → Front (SpellsTarget t) ts rest → height_of_target t ≤ h → TargetEnds t rest → target_reader h ts ≡ Some (t, rest)
 
 whole_step : (r : Readers) (target : TargetReader) (n : List ℕ) (rest : List Symbol) → NoBracket rest → target_in r target (symbol.Name n ∷ rest) ≡ Some (Whole n, rest)
 unfolding target_in target_named
@@ -95,7 +104,7 @@ more_all e es takes all ts rest h most f small room next n =
     let a = split {P = quoted terminal.Comma} {Q = SpellsTarget e ⊗ SpellsMoreTargets es} f in
     let b = split {P = SpellsTarget e} {Q = SpellsMoreTargets es} a.right in
     counted most a.mid b.mid room (one_is a.left) (no_longer b.left)
-    (takes a.mid b.mid h b.left (omega arith) (more_follows es b.mid rest b.right next)) (λ k short. all b.mid rest h k b.right (omega arith) short next n)
+    (takes a.mid b.mid h b.left (omega arith) (target_ends e b.mid (more_follows es b.mid rest b.right next))) (λ k short. all b.mid rest h k b.right (omega arith) short next n)
   where
     counted : (most : ℕ) (m1 m2 : List Symbol) → length ts ≤ most → ts ≡ symbol.Terminal terminal.Comma ∷ m1 → length m2 ≤ length m1 → target_reader h m1 ≡ Some (e, m2) → ((k : ℕ) → length m2 ≤ k → more_targets (target_reader h) k m2 ≡ Some (es, rest))
         → more_targets (target_reader h) most ts ≡ Some (more e es, rest)
@@ -117,7 +126,7 @@ join_all e es takes all ts rest (suc h) f small next =
     let close = one_is b.right in
     let plain_end : NoBracket b.mid = rw close refl in
     let last : after terminal.Comma b.mid ≡ None = rw close refl in
-    join_step (readers h) (target_reader h) e es ts a.mid c.mid b.mid rest (one_is a.left) (takes a.mid c.mid h c.left (omega arith) (more_follows es c.mid b.mid c.right plain_end))
+    join_step (readers h) (target_reader h) e es ts a.mid c.mid b.mid rest (one_is a.left) (takes a.mid c.mid h c.left (omega arith) (target_ends e c.mid (more_follows es c.mid b.mid c.right plain_end)))
     (all c.mid b.mid h (length c.mid) c.right (omega arith) (omega arith) plain_end last) close
 
 empty_join : TargetTakes (Join end)
@@ -127,18 +136,26 @@ empty_join ts rest h f small next =
     absurd b.left.says
 
 mutual
-  pub target_takes : (t : Place) → TargetTakes t
-  target_takes (Whole n) = whole_all n
-  target_takes (Bit n i) = bit_all n i
-  target_takes (Part n i j) = part_all n i j
-  target_takes (Join end) = empty_join
-  target_takes (Join (more e es)) = join_all e es (target_takes e) (targets_take es)
+  target_all : (t : Place) → TargetTakes t
+  target_all (Whole n) = whole_all n
+  target_all (Bit n i) = bit_all n i
+  target_all (Part n i j) = part_all n i j
+  target_all (Join end) = empty_join
+  target_all (Join (more e es)) = join_all e es (target_all e) (targets_take es)
 
   targets_take : (es : Places) → TargetsTake es
   targets_take end = λ ts rest h most f small room next n.
       let is : Front Nothing ts rest = record { text = f.text; parts = f.parts; says = f.says } in
       rw (nothing_is is) (end_step (target_reader h) most rest n)
-  targets_take (more e es) = more_all e es (target_takes e) (targets_take es)
+  targets_take (more e es) = more_all e es (target_all e) (targets_take es)
+
+-- What spells a target is read up to its end.
+pub target_front_takes : (h : ℕ) (ts rest : List Symbol) (t : Place) → Front (SpellsTarget t) ts rest → height_of_target t ≤ h → TargetEnds t rest → target_reader h ts ≡ Some (t, rest)
+target_front_takes h ts rest t = target_all t ts rest h
+
+-- The same where no select goes on, whatever the target is.
+pub target_takes : (t : Place) (ts rest : List Symbol) (h : ℕ) → Front (SpellsTarget t) ts rest → height_of_target t ≤ h → NoBracket rest → target_reader h ts ≡ Some (t, rest)
+target_takes t ts rest h f small next = target_all t ts rest h f small (target_ends t rest next)
 
 -- A list of symbols has at most one target.
 pub one_target : (s t : Place) (ts : List Symbol) → SpellsTarget s ts → SpellsTarget t ts → s ≡ t

@@ -2,5 +2,14 @@ pub mod Says
 pub mod Expressions
 pub mod Targets
 pub mod Statements
+pub mod Productions
+pub mod Declarations
+pub mod Links
+pub mod Items
+pub mod Modules
 pub mod Reading
 pub mod ReadStatement
+pub mod ReadParts
+pub mod ReadDeclarations
+pub mod ReadItems
+pub mod ReadModule

@@ -4,9 +4,11 @@ ghost use Rattle.std.specs.Prelude.{◌≡◌, List};
 ghost use Rattle.rst_tree.specs.Trees.{Tree};
 ghost use Rattle.rst_tree.specs.Targets.{Place};
 ghost use Rattle.rst_tree.specs.Statements.{Statement};
+ghost use Rattle.rst_tree.specs.Modules.{PlainModule};
 ghost use Rattle.rst_grammar.specs.Expressions.{Spells};
 ghost use Rattle.rst_grammar.specs.Targets.{SpellsTarget};
 ghost use Rattle.rst_grammar.specs.Statements.{SpellsStmt};
+ghost use Rattle.rst_grammar.specs.Modules.{SpellsModule};
 ghost use Rattle.rst_grammar.specs.declared.symbol.Symbol.{Symbol};
 
 /// A list of symbols has at most one expression.
@@ -22,4 +24,9 @@ pub fn one_target()
 /// A list of symbols has at most one statement.
 pub fn one_statement()
     ensures { (s t : Statement) (ts : List Symbol) → SpellsStmt s ts → SpellsStmt t ts → s ≡ t }
+{}
+
+/// A list of symbols has at most one module.
+pub fn one_module()
+    ensures { (m n : PlainModule) (ts : List Symbol) → SpellsModule m ts → SpellsModule n ts → m ≡ n }
 {}

@@ -1,5 +1,5 @@
 -- Looking for the end of a comment by index.
-use Rattle.std.proofs.Common.{◌≡◌, ℕ, zero, suc, ◌+◌, ◌<◌, ◌≤◌, Bool, true, false, List, [], ◌∷◌, length, get_or, drop, Option, Some, None, refl, sym, ap, subst, ◌-◌, ◌∙◌, arith, drop-cons, length-drop}
+use Rattle.std.proofs.Common.{◌≡◌, ℕ, zero, suc, ◌+◌, ◌<◌, ◌≤◌, true, false, List, [], ◌∷◌, length, get_or, drop, Option, Some, None, refl, sym, ap, subst, ◌-◌, ◌∙◌, arith, drop-cons, length-drop}
 use Rattle.std.specs.Option.{option_map}
 use Rattle.rst_lex.specs.Fronts.{closes, close_len}
 

@@ -1,13 +1,13 @@
 -- White space, comments, attributes and directives at the front of a text.
-use Rattle.std.proofs.Common.{◌≡◌, ℕ, zero, suc, ◌+◌, ◌<◌, ◌≤◌, Bool, true, false, cond, List, [], ◌∷◌, ◌++◌, length, take, drop, Option, Some, None, inl, inr, ◌⊎◌, refl, sym, ap, subst, ◌∙◌, arith, take-append-drop}
+use Rattle.std.proofs.Common.{◌≡◌, ℕ, zero, suc, ◌+◌, ◌≤◌, Bool, true, false, cond, List, [], ◌∷◌, ◌++◌, length, take, drop, Option, Some, None, inl, inr, ◌⊎◌, refl, sym, ap, subst, ◌∙◌, arith, take-append-drop}
 use Rattle.std.specs.List.{prefix_len}
 use Rattle.std.specs.Option.{option_map}
 use Rattle.std.proofs.lemmas.List.Folds.{length-prefix_len}
 use Rattle.std.proofs.lemmas.List.{length-take-le}
 use Rattle.std.proofs.lemmas.Bool.Decides.{nat_tests}
-use Rattle.std.specs.Prelude.{◌||◌, ◌&&◌, ◌==◌, not}
-use Rattle.rst_lex.specs.Bytes.{is_space, EachByte}
-use Rattle.rst_lex.specs.Gaps.{is_in_line, IsWhite, IsLine, EndsAtFirst, OpensBlock, IsBlock, begins_with_close, closes_next, OpensAttribute, IsAttribute, is_skipped_directive, OpensDirective, IsDirective, IsGap, white, line, block, attribute, directive}
+use Rattle.std.specs.Prelude.{◌||◌, ◌==◌}
+use Rattle.rst_lex.specs.Bytes.{is_space}
+use Rattle.rst_lex.specs.Gaps.{is_in_line, IsWhite, IsLine, EndsAtFirst, IsBlock, begins_with_close, closes_next, IsAttribute, IsGap, white, line, block, attribute, directive}
 use Rattle.rst_lex.specs.Tokens.{Begins}
 use Rattle.rst_lex.specs.Lexing.{Nowhere}
 use Rattle.rst_lex.specs.Fronts.{closes, close_len}

@@ -1,31 +1,28 @@
 -- What stands at the front of a text is what `text_front` says.
-use Rattle.std.proofs.Common.{◌≡◌, ℕ, zero, suc, ◌+◌, ◌<◌, ◌≤◌, Bool, true, false, cond, List, [], ◌∷◌, ◌++◌, length, take, drop, Option, Some, None, inl, inr, ◌⊎◌, refl, sym, ap, subst, ◌∙◌, arith, take-append-drop, append_assoc, length-append}
+use Rattle.std.proofs.Common.{◌≡◌, ℕ, ◌+◌, ◌<◌, ◌≤◌, Bool, true, false, cond, List, [], ◌∷◌, ◌++◌, length, take, drop, Option, Some, None, inl, inr, ◌⊎◌, refl, sym, ap, subst, ◌∙◌, arith, take-append-drop}
 use Rattle.std.specs.List.{prefix_len}
 use Rattle.std.proofs.lemmas.List.Folds.{length-prefix_len}
-use Rattle.std.proofs.lemmas.List.Prefix.{front_rest}
 use Rattle.std.proofs.lemmas.Bool.{eqb-true}
 use Rattle.std.proofs.lemmas.Bool.Decides.{nat_tests}
-use Rattle.std.specs.Prelude.{◌||◌, ◌&&◌, ◌==◌, not}
+use Rattle.std.specs.Prelude.{◌&&◌, ◌==◌, not}
 use Rattle.rst_lex.specs.declared.front.Tail.{Tail}
-use Rattle.rst_lex.specs.declared.front.Cause.{Cause}
 use Rattle.rst_lex.specs.declared.front.Cause.TheVariants as causes
 use Rattle.rst_lex.specs.declared.front.Front.{Front}
 use Rattle.rst_lex.specs.declared.front.Front.TheVariants as fronts
 use Rattle.rst_lex.specs.declared.piece.Piece.TheVariants as pieces
-use Rattle.rst_lex.specs.declared.token.TokenKind.TheVariants as kinds
 use Rattle.rst_lex.specs.Bytes.{is_space, is_digit, is_name_start, is_name_byte, is_decimal_byte, EachByte}
 use Rattle.rst_lex.specs.Words.{IsIdentifier}
 use Rattle.rst_lex.specs.Marks.{is_mark, IsMark, mark_len}
-use Rattle.rst_lex.specs.Numbers.{IsDecimal, IsSize, is_digit_behind, Based, IsBased, based_text}
-use Rattle.rst_lex.specs.Literals.{width_of, IsNone}
-use Rattle.rst_lex.specs.Gaps.{is_in_line, OpensBlock, IsBlock, closes_next, OpensAttribute, IsAttribute, is_skipped_directive, OpensDirective, IsGap}
+use Rattle.rst_lex.specs.Numbers.{IsDecimal, IsSize, Based, IsBased}
+use Rattle.rst_lex.specs.Literals.{width_of}
+use Rattle.rst_lex.specs.Gaps.{is_in_line, OpensBlock, closes_next, OpensAttribute, is_skipped_directive, IsGap}
 use Rattle.rst_lex.specs.Tokens.{IsSystem, IsToken, identifier, system, decimal, based, mark, Begins}
-use Rattle.rst_lex.specs.Lexing.{Nowhere, IsBasedText, OpensBased, IsFault, block, attribute, directive, broken, no_number, too_wide, IsNoNumber, IsSound, IsPiece}
+use Rattle.rst_lex.specs.Lexing.{Nowhere, IsBasedText, OpensBased, IsFault, block, attribute, directive, broken, IsNoNumber, IsSound, IsPiece}
 use Rattle.rst_lex.specs.Fronts.{close_len, comment_front, slash_front, bracket_front, directive_front, system_front, tail_front, tail_based, based_front, quote_front, number_front, mark_front, text_front}
-use Rattle.rst_lex.proofs.Shapes.{run_longest, run_fits, begins_identifier, begins_mark, no_empty_token, identifier_head, system_head, mark_head, based_head, no_based, mark_longest, empty_len}
+use Rattle.rst_lex.proofs.Shapes.{run_longest, run_fits, begins_identifier, begins_mark, no_empty_token, identifier_head, system_head, mark_head, based_head, mark_longest, empty_len}
 use Rattle.rst_lex.proofs.GapFronts.{begins_gap, no_gap, GapOf, white_gap, line_gap, block_gap, no_block, slash_alone, attribute_gap, bracket_alone, no_attribute, directive_gap}
 use Rattle.rst_lex.proofs.Sounds.{begins_number, begins_fault, sound_other, sound_slash, sound_bracket, sound_backquote, sound_number}
-use Rattle.rst_lex.proofs.Numbers.{Stops, run_stops, run_len, split_len, Splits, TailSays, tail_says, tail_of, digits_each, SameParts, same_parts, HeadIs, head_is, quote_is, OneHead, based_behind, length_based, BasedParts, based_parts}
+use Rattle.rst_lex.proofs.Numbers.{TailSays, tail_says, tail_of, head_is, quote_is, OneHead, based_behind, based_parts}
 
 not_true : (t : Bool) → (t ≡ true → ⊥) → t ≡ false
 not_true true n = absurd (n refl)

@@ -1,11 +1,10 @@
 -- What the loop over a text keeps.
-use Rattle.std.proofs.Common.{◌≡◌, ◌≢◌, ℕ, zero, suc, ◌+◌, ◌-◌, ◌<◌, ◌≤◌, List, [], ◌∷◌, ◌++◌, length, take, drop, Result, Ok, Err, inl, inr, ◌⊎◌, refl, sym, ap, subst, ◌∙◌, arith, append_assoc, length-append, length-drop, All, slice_range}
+use Rattle.std.proofs.Common.{◌≡◌, ℕ, ◌+◌, ◌-◌, ◌<◌, ◌≤◌, List, [], ◌∷◌, ◌++◌, length, take, drop, Ok, Err, inl, inr, refl, sym, ap, subst, ◌∙◌, arith, append_assoc, length-append, length-drop, All, slice_range}
 use Rattle.std.proofs.lemmas.List.Elements.{All-cons, All-nil}
 use Rattle.std.proofs.lemmas.List.{append-nil, nil_from_length, drop-drop}
 use Rattle.std.proofs.Math.Seq.{take-length, take-append_seam}
 use Rattle.std.proofs.lemmas.List.Prefix.{front_rest}
 use Rattle.rst_lex.specs.declared.front.Cause.{Cause}
-use Rattle.rst_lex.specs.declared.front.Cause.TheVariants as causes
 use Rattle.rst_lex.specs.declared.piece.Piece.{Piece}
 use Rattle.rst_lex.specs.declared.piece.Piece.TheVariants as pieces
 use Rattle.rst_lex.specs.declared.lexer.LexFault.{LexFault}
@@ -14,8 +13,8 @@ use Rattle.rst_lex.specs.declared.token.TokenKind.{TokenKind}
 use Rattle.rst_lex.specs.declared.token.Token.{Token}
 use Rattle.rst_lex.specs.Gaps.{IsGap}
 use Rattle.rst_lex.specs.Small.{InOrder}
-use Rattle.rst_lex.specs.Tokens.{IsToken, Begins, token_text}
-use Rattle.rst_lex.specs.Lexing.{IsSound, IsFault, Answer, with_token, fault_at, Lexes, done, gap, token, fault, bad_byte, Reads, IsTokenOf, IsPiece}
+use Rattle.rst_lex.specs.Tokens.{IsToken, token_text}
+use Rattle.rst_lex.specs.Lexing.{Answer, with_token, fault_at, Lexes, done, gap, token, fault, bad_byte, Reads, IsTokenOf, IsPiece}
 use Rattle.rst_lex.proofs.Shapes.{no_empty_token}
 use Rattle.rst_lex.proofs.GapFronts.{no_empty_gap}
 

@@ -1,29 +1,25 @@
 -- From what stands at the front of a text to its first piece.
-use Rattle.std.proofs.Common.{◌≡◌, ℕ, zero, suc, ◌+◌, ◌<◌, ◌≤◌, Bool, true, false, cond, List, [], ◌∷◌, ◌++◌, length, take, drop, Result, Ok, Err, inl, inr, ◌⊎◌, refl, sym, ap, subst, ◌∙◌, arith, append_assoc, length-append}
-use Rattle.std.specs.List.{prefix_len}
+use Rattle.std.proofs.Common.{◌≡◌, ℕ, ◌+◌, ◌<◌, ◌≤◌, Bool, true, false, cond, List, [], ◌∷◌, ◌++◌, length, take, drop, Result, Ok, Err, inl, inr, refl, sym, ap, subst, ◌∙◌, arith, append_assoc, length-append}
 use Rattle.std.specs.Prelude.{nat_lt}
 use Rattle.std.proofs.Math.Seq.{take-append_seam}
 use Rattle.std.proofs.lemmas.List.Prefix.{front_rest}
 use Rattle.rst_lex.specs.declared.front.Tail.{Tail}
 use Rattle.rst_lex.specs.declared.front.Cause.{Cause}
 use Rattle.rst_lex.specs.declared.front.Cause.TheVariants as causes
-use Rattle.rst_lex.specs.declared.front.Front.TheVariants as fronts
 use Rattle.rst_lex.specs.declared.piece.Piece.{Piece}
 use Rattle.rst_lex.specs.declared.piece.Piece.TheVariants as pieces
-use Rattle.rst_lex.specs.declared.token.TokenKind.{TokenKind}
 use Rattle.rst_lex.specs.declared.token.TokenKind.TheVariants as kinds
 use Rattle.rst_lex.specs.declared.token.Literal.{Literal}
 use Rattle.rst_lex.specs.Bytes.{EachByte}
-use Rattle.rst_lex.specs.Words.{is_keyword, is_identifier, IsIdentifier}
+use Rattle.rst_lex.specs.Words.{is_keyword, IsIdentifier}
 use Rattle.rst_lex.specs.Marks.{IsMark}
 use Rattle.rst_lex.specs.Numbers.{IsDecimal, IsSign, is_digit_behind, Based, IsBased, based_text}
-use Rattle.rst_lex.specs.Literals.{width_of, is_signed, IsPlain, IsNone, LiteralOf, HasParts, IsBasedAnswer}
-use Rattle.rst_lex.specs.Gaps.{IsGap}
+use Rattle.rst_lex.specs.Literals.{width_of, is_signed, IsPlain, IsNone, IsBasedAnswer}
 use Rattle.rst_lex.specs.Tokens.{IsSystem, IsToken, based, Begins}
-use Rattle.rst_lex.specs.Lexing.{Nowhere, IsBasedText, IsNoNumber, IsFault, no_number, too_wide, IsSound, IsTokenOf, IsPiece, IsBasedPiece}
+use Rattle.rst_lex.specs.Lexing.{IsBasedText, no_number, too_wide, IsTokenOf, IsPiece, IsBasedPiece}
 use Rattle.rst_lex.proofs.Shapes.{run_longest, same_front, same_begins}
-use Rattle.rst_lex.proofs.Numbers.{Splits, TailSays, digits_each, SameParts, same_parts, OneHead, based_behind, length_based, BasedParts, based_parts}
-use Rattle.rst_lex.proofs.LexFronts.{WordSays, BasedSays, Says}
+use Rattle.rst_lex.proofs.Numbers.{digits_each, same_parts, based_behind, length_based, based_parts}
+use Rattle.rst_lex.proofs.LexFronts.{WordSays, BasedSays}
 use Rattle.rst_lex.proofs.SmallPieces.{make_name}
 
 -- the bytes that a front says are those that the code takes

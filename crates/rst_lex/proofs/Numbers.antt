@@ -1,5 +1,5 @@
 -- The parts of a based literal, and that a text has them in one way.
-use Rattle.std.proofs.Common.{◌≡◌, ℕ, zero, suc, ◌+◌, ◌<◌, ◌≤◌, Bool, true, false, cond, List, [], ◌∷◌, ◌++◌, length, take, drop, Option, Some, None, inl, inr, ◌⊎◌, refl, sym, ap, subst, ◌∙◌, arith, take-append-drop, append_assoc, length-append}
+use Rattle.std.proofs.Common.{◌≡◌, ℕ, suc, ◌+◌, Bool, true, false, cond, List, [], ◌∷◌, ◌++◌, length, take, drop, Option, Some, None, inl, inr, ◌⊎◌, refl, sym, ap, subst, ◌∙◌, arith, take-append-drop, append_assoc, length-append}
 use Rattle.std.specs.List.{prefix_len}
 use Rattle.std.proofs.Math.Seq.{take-append_seam}
 use Rattle.std.proofs.lemmas.List.Folds.{length-prefix_len}
@@ -9,9 +9,9 @@ use Rattle.std.proofs.lemmas.Bool.Decides.{nat_tests}
 use Rattle.std.specs.Prelude.{◌||◌, ◌&&◌, ◌==◌, not}
 use Rattle.rst_lex.specs.declared.front.Tail.{Tail}
 use Rattle.rst_lex.specs.Bytes.{is_space, is_digit, is_decimal_byte, EachByte}
-use Rattle.rst_lex.specs.Numbers.{IsDecimal, IsSize, IsSign, IsDigitsBehind, is_digit_behind, Based, IsBased, based_text}
+use Rattle.rst_lex.specs.Numbers.{IsSize, IsSign, IsDigitsBehind, is_digit_behind, Based, IsBased, based_text}
 use Rattle.rst_lex.specs.Fronts.{begins_digits, letter_front, tail_front}
-use Rattle.rst_lex.proofs.Shapes.{run_longest, run_fits, same_front}
+use Rattle.rst_lex.proofs.Shapes.{run_fits, same_front}
 
 -- ---- runs that end
 

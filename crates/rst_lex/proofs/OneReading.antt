@@ -1,8 +1,8 @@
 -- A text is read in one way.
-use Rattle.std.proofs.Common.{◌≡◌, ℕ, zero, suc, ◌+◌, ◌<◌, ◌≤◌, ◌*◌, ◌^◌, ◌%◌, Bool, true, false, List, [], ◌∷◌, ◌++◌, length, Ok, Err, inl, inr, ◌⊎◌, refl, sym, ap, subst, ◌∙◌, arith, drop, length-drop, bit_and}
+use Rattle.std.proofs.Common.{◌≡◌, ℕ, ◌+◌, ◌^◌, ◌%◌, Bool, true, List, [], ◌∷◌, ◌++◌, length, Err, inl, inr, ◌⊎◌, refl, sym, ap, subst, ◌∙◌, arith, drop, length-drop, bit_and}
 use Rattle.std.specs.Int.{bit_not, w64}
 use Rattle.std.proofs.lemmas.Bool.Decides.{nat_tests}
-use Rattle.std.specs.Prelude.{◌||◌, ◌&&◌, ◌==◌}
+use Rattle.std.specs.Prelude.{◌==◌}
 use Rattle.std.proofs.lemmas.List.{append-nil, nil_from_length}
 use Rattle.std.specs.List.{prefix_len}
 use Rattle.rst_lex.specs.declared.front.Cause.{Cause}
@@ -11,19 +11,18 @@ use Rattle.rst_lex.specs.declared.token.TokenKind.{TokenKind}
 use Rattle.rst_lex.specs.declared.token.TokenKind.TheVariants as kinds
 use Rattle.rst_lex.specs.declared.token.Literal.{Literal}
 use Rattle.rst_lex.specs.Bytes.{is_digit, is_name_start, is_space, is_decimal_byte}
-use Rattle.rst_lex.specs.Words.{IsIdentifier, is_keyword}
-use Rattle.rst_lex.specs.Marks.{is_mark, IsMark}
-use Rattle.rst_lex.specs.Numbers.{IsDecimal, IsSize, IsSign, Based, IsBased, based_text}
-use Rattle.rst_lex.specs.Literals.{width_of, is_signed, IsPlain, IsNone, LiteralOf, HasParts, mask_of, number, radix_of, digit_value}
-use Rattle.rst_lex.specs.Gaps.{IsGap, OpensBlock, OpensAttribute}
-use Rattle.rst_lex.specs.Tokens.{IsSystem, IsToken, Begins}
-use Rattle.rst_lex.specs.Lexing.{Nowhere, IsBasedText, IsNoNumber, OpensBased, IsFault, block, attribute, directive, broken, no_number, too_wide, IsSound, IsTokenOf, Answer, with_token, fault_at, Lexes, done, gap, token, fault, bad_byte}
-use Rattle.rst_lex.proofs.Shapes.{same_begins, same_front, no_empty_token, identifier_head, mark_head, system_head, based_head, no_based, parts_head}
+use Rattle.rst_lex.specs.Marks.{is_mark}
+use Rattle.rst_lex.specs.Numbers.{IsDecimal, IsSize, Based, IsBased}
+use Rattle.rst_lex.specs.Literals.{width_of, is_signed, IsPlain, LiteralOf, HasParts, number, radix_of, digit_value}
+use Rattle.rst_lex.specs.Gaps.{IsGap}
+use Rattle.rst_lex.specs.Tokens.{IsToken}
+use Rattle.rst_lex.specs.Lexing.{IsBasedText, IsNoNumber, IsFault, block, attribute, directive, broken, no_number, too_wide, IsTokenOf, Answer, with_token, fault_at, Lexes, done, gap, token, fault, bad_byte}
+use Rattle.rst_lex.proofs.Shapes.{same_begins, no_empty_token, identifier_head, mark_head, system_head, based_head, no_based, parts_head}
 use Rattle.rst_lex.proofs.GapFronts.{no_empty_gap}
 use Rattle.rst_lex.proofs.Sounds.{begins_number, begins_cause, fault_head}
 use Rattle.rst_lex.proofs.SmallPieces.{name_identifier, name_no_keyword}
 use Rattle.rst_lex.proofs.SmallLoop.{same_literal}
-use Rattle.rst_lex.proofs.Numbers.{OneHead, BasedParts, based_parts, Splits, SameParts, same_parts, head_is, quote_is, HeadIs, run_len, based_behind}
+use Rattle.rst_lex.proofs.Numbers.{OneHead, based_parts, Splits, same_parts, head_is, quote_is, run_len, based_behind}
 
 abbrev err_of : Cause → ℕ → Answer
 err_of cause at = Err (fault_at cause at)

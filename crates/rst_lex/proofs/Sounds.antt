@@ -1,14 +1,13 @@
 -- Where no faulty thing begins.
-use Rattle.std.proofs.Common.{◌≡◌, ℕ, ◌+◌, ◌<◌, ◌≤◌, Bool, true, false, List, [], ◌∷◌, ◌++◌, length, inl, inr, ◌⊎◌, refl, sym, ap, subst, ◌∙◌, arith}
+use Rattle.std.proofs.Common.{◌≡◌, ℕ, ◌<◌, Bool, true, false, List, [], ◌∷◌, inl, inr, ◌⊎◌, refl, sym, ap, ◌∙◌, arith}
 use Rattle.std.proofs.lemmas.Bool.Decides.{nat_tests}
-use Rattle.std.specs.Prelude.{◌||◌, ◌&&◌, ◌==◌}
+use Rattle.std.specs.Prelude.{◌||◌, ◌==◌}
 use Rattle.rst_lex.specs.declared.front.Cause.{Cause}
 use Rattle.rst_lex.specs.declared.front.Cause.TheVariants as causes
-use Rattle.rst_lex.specs.Bytes.{is_space, is_digit, is_name_start}
-use Rattle.rst_lex.specs.Marks.{is_mark}
-use Rattle.rst_lex.specs.Numbers.{IsSize, Based, IsBased}
+use Rattle.rst_lex.specs.Bytes.{is_digit}
+use Rattle.rst_lex.specs.Numbers.{Based, IsBased}
 use Rattle.rst_lex.specs.Literals.{width_of}
-use Rattle.rst_lex.specs.Gaps.{closes_next, is_skipped_directive, OpensBlock, IsBlock, OpensAttribute, IsAttribute, OpensDirective}
+use Rattle.rst_lex.specs.Gaps.{is_skipped_directive, OpensBlock, IsBlock, OpensAttribute, IsAttribute}
 use Rattle.rst_lex.specs.Tokens.{Begins}
 use Rattle.rst_lex.specs.Lexing.{Nowhere, IsBasedText, IsNoNumber, OpensBased, IsFault, block, attribute, directive, broken, no_number, too_wide, IsSound}
 use Rattle.rst_lex.proofs.Shapes.{parts_head, based_head, no_based}

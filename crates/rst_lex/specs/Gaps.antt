@@ -1,5 +1,5 @@
 -- What counts as white space: white space itself, comments, attributes, and two directives (IEEE 1364-2001, sections 2.2, 2.3, 2.8 and 19).
-use Rattle.std.specs.Prelude.{◌≡◌, ℕ, ◌==◌, Bool, true, false, ◌||◌, not, List, [], ◌∷◌, drop, IsTrue, ◌⊎◌, codes, bytes_eq}
+use Rattle.std.specs.Prelude.{◌≡◌, ℕ, ◌==◌, Bool, false, ◌||◌, not, List, [], ◌∷◌, drop, IsTrue, ◌⊎◌, codes, bytes_eq}
 use Rattle.std.specs.List.{prefix_len, take_while}
 use Rattle.rst_lex.specs.Bytes.{is_space, is_name_byte, EachByte}
 

@@ -1,6 +1,6 @@
-use Rattle.std.proofs.Common.{subst, sym, ◌+◌, arith, Err}
+use Rattle.std.proofs.Common.{subst, sym, ◌+◌, Err}
 use Rattle.rst_lex.specs.Lexing.{Reads}
-use Rattle.rst_lex.proofs.LexLoop.{Front, front_start, piece_says, gap_ends, token_ends, front_gap, front_token, front_done, front_fault, in_order, kinds_in}
+use Rattle.rst_lex.proofs.LexLoop.{Front, piece_says, front_gap, front_token, front_done, front_fault, in_order, kinds_in}
 use Rattle.rst_lex.specs.declared.piece.Piece.TheVariants as pieces
 use Rattle.rst_lex.proofs.lexer.lex.Goals as goal
 

@@ -1,5 +1,5 @@
 use Rattle.std.proofs.Common.{◌^◌}
-use Rattle.rst_lex.specs.Literals.{digit_value, mask_digit}
+use Rattle.rst_lex.specs.Literals.{mask_digit}
 use Rattle.rst_lex.proofs.Worth.{digit_read, digit_skipped}
 use Rattle.rst_lex.proofs.literal.mask_modulo.Goals.{then-b-ne95, else-b-ne95}
 use Rattle.rst_lex.proofs.literal.mask_modulo.Goals as goal

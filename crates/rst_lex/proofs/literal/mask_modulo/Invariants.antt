@@ -1,5 +1,5 @@
 use Rattle.std.proofs.Common.{◌≡◌, ◌%◌, ◌^◌, take}
-use Rattle.rst_lex.specs.Literals.{number, digit_value, mask_digit}
+use Rattle.rst_lex.specs.Literals.{number, mask_digit}
 use Rattle.rst_lex.proofs.literal.mask_modulo.Given as goal
 
 abbrev pub invariant-loop-b : goal.invariant-loop-b

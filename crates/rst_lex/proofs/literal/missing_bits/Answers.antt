@@ -1,4 +1,4 @@
-use Rattle.std.proofs.Common.{◌≡◌, ◌≤◌, ◌*◌, ◌-◌, ◌^◌, ℕ, sym, ap, subst, ◌∙◌, arith, true}
+use Rattle.std.proofs.Common.{◌≡◌, ◌≤◌, ◌*◌, ◌-◌, ◌^◌, ℕ, sym, ap, subst, ◌∙◌, arith}
 use Rattle.rst_lex.specs.Literals.{digit_count, digit_bits}
 use Rattle.rst_lex.proofs.Worth.{missing_none, missing_some, ones_grow}
 use Rattle.rst_lex.proofs.literal.missing_bits.Goals as goal

@@ -1,6 +1,5 @@
 use Rattle.std.proofs.Common.{subst, sym}
 use Rattle.rst_lex.specs.Words.{IsIdentifier}
-use Rattle.rst_lex.specs.declared.front.Front.{Front}
 use Rattle.rst_lex.specs.declared.front.Front.TheVariants as fronts
 use Rattle.rst_lex.proofs.LexFronts.{Says, says}
 use Rattle.rst_lex.proofs.LexPieces.{front_within, word_piece, system_piece, mark_piece, decimal_piece, based_within, based_piece}
