@@ -1,7 +1,8 @@
 // Reading modules, one function for each reader of the grammar's specification.
 
-ghost use Rattle.std.specs.Prelude.{◌≡◌, List, [], map, flat_map, false, IfOk};
-ghost use Rattle.rst_tree.specs.Modules.{PlainParam, PlainPortDecl, plain_param, plain_port_decl, plain_header, plain_item, plain_module};
+ghost use Rattle.std.specs.Prelude.{◌≡◌, ◌≤◌, List, [], map, flat_map, false, Some, IfOk};
+ghost use Rattle.rst_tree.specs.Modules.{PlainParam, PlainPortDecl, PlainModule, height_of_module, plain_param, plain_port_decl, plain_header, plain_item, plain_module};
+ghost use Rattle.rst_grammar.specs.Modules.{SpellsModule};
 ghost use Rattle.rst_grammar.specs.ReadDeclarations.{port_decl_in, params_in};
 ghost use Rattle.rst_grammar.specs.ReadModule.{groups_in, header_params_in, ports_in, header_in, items_in, module_reader};
 ghost use Rattle.rst_read.specs.Gives.{Gives};
@@ -188,4 +189,20 @@ fn read_module<'s, 'a>(
         items,
     };
     Ok((module, rest))
+}
+
+/// The module that the symbols spell, of a height of at most 200 (IEEE 1364-2001, annex A.1.3, narrowed).
+///
+/// NoTree comes exactly where they spell none.
+pub(crate) fn module<'a>(alloc: Global, symbols: &[Symbol<'a>]) -> Result<Module, Stop>
+    // What is read is spelled so.
+    ensures found { IfOk result (λ m. SpellsModule (plain_module m) symbols.now × (height_of_module (plain_module m) ≤ 200)) }
+    // What is spelled so is read, unless memory runs out.
+    ensures only { (m : PlainModule) → SpellsModule m symbols.now → height_of_module m ≤ 200 → Gives plain_module result (Some m) }
+{
+    let (found, rest) = read_module(alloc, symbols)?;
+    if !rest.is_empty() {
+        return Err(Stop::NoTree);
+    }
+    Ok(found)
 }
