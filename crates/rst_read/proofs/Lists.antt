@@ -1,74 +1,150 @@
--- Reading a list one tree after the other, as a loop does.
-use Rattle.std.proofs.Common.{◌≡◌, ℕ, zero, suc, List, [], ◌∷◌, length, Option, Some, None, refl, sym, ap, ◌∙◌}
-use Rattle.rst_tree.specs.Trees.{Tree, Trees, end, more, appended}
+-- Reading a list with commas one part after the other, as a loop does.
+use Rattle.std.proofs.Common.{◌≡◌, ℕ, zero, suc, List, [], ◌∷◌, length, Bool, Option, Some, None, refl, sym, ap, ◌∙◌}
+use Rattle.rst_tree.specs.Trees.{Tree, Trees}
+use Rattle.rst_tree.specs.Trees as trees
+use Rattle.rst_tree.specs.Targets.{Place, Places}
+use Rattle.rst_tree.specs.Targets as targets
 use Rattle.rst_grammar.specs.declared.symbol.Symbol.{Symbol}
 use Rattle.rst_grammar.specs.declared.symbol.Symbol.TheVariants as symbol
-use Rattle.rst_grammar.specs.Reading.{after, Readers, more_in, list_from, ◌>>=◌}
-use Rattle.rst_read.specs.declared.stop.Stop.{Stop}
-use Rattle.rst_read.specs.declared.stop.Stop.TheVariants as stop
-use Rattle.rst_read.specs.Gives.{Fails}
 use Rattle.rst_grammar.specs.declared.symbol.Terminal.TheVariants as terminal
+use Rattle.rst_grammar.specs.Reading.{after, Readers, more_in, list_from, ◌>>=◌}
+use Rattle.rst_grammar.specs.ReadStatement.{TargetReader, more_targets, label_in, more_labels, labels_in}
+use Rattle.rst_read.specs.declared.stop.Stop.{Stop}
+use Rattle.rst_read.specs.Gives.{Fails}
+use Rattle.rst_read.specs.Parts.{targets_in}
+use Rattle.rst_read.proofs.Chains.{Chain, Found, with_front, with_first, begins, goes_on, ends, stops}
 
-abbrev pub joined : Trees → Trees → Trees
-joined end ys = ys
-joined (more x xs) ys = more x (joined xs ys)
-
-joined-appended : (xs ys : Trees) (x : Tree) → joined (appended xs x) ys ≡ joined xs (more x ys)
-joined-appended end ys x = refl
-joined-appended (more z zs) ys x = ap (more z) (joined-appended zs ys x)
-
-joined-end : (xs : Trees) → joined xs end ≡ xs
-joined-end end = refl
-joined-end (more z zs) = ap (more z) (joined-end zs)
-
-abbrev pub Found : Type 0
-Found = Option (Trees × List Symbol)
-
--- what was read before, and what is still read
-abbrev pub with_front : Trees → Found → Found
-with_front front read = read >>= λ o. Some (joined front o.0, o.1)
-
-regroup : (front : Trees) (e : Tree) (read : Found) → with_front front (read >>= λ o. Some (more e o.0, o.1)) ≡ with_front (appended front e) read
-regroup front e (Some o) = ap (λ (es : Trees). Some (es, o.1)) (sym (joined-appended front o.0 e))
-regroup front e None = refl
-
-pub list_start : (r : Readers) (first : Tree) (rest : List Symbol) → with_front (more first end) (more_in r (length rest) rest) ≡ list_from r first rest
-unfolding list_from
-list_start r first rest = refl
+-- a comma and a part, at most this many times
+abbrev pub more_by : {X L : Type 0} → Chain X L → (List Symbol → Option (X × List Symbol)) → ℕ → List Symbol → Found L
+more_by c read zero rest = Some (c.none, rest)
+more_by c read (suc most) (symbol.Terminal terminal.Comma ∷ rest) = read rest >>= λ first. with_first c first.0 (more_by c read most first.1)
+more_by c read (suc most) rest = Some (c.none, rest)
 
 comma_is : (ts next : List Symbol) → after terminal.Comma ts ≡ Some next → ts ≡ symbol.Terminal terminal.Comma ∷ next
 comma_is [] next e = absurd cc
 comma_is (symbol.Terminal terminal.Comma ∷ ts) next e = cc
 comma_is (s ∷ ts) next e = absurd cc
 
-no_comma : (r : Readers) (k : ℕ) (ts : List Symbol) → after terminal.Comma ts ≡ None → more_in r k ts ≡ Some (end, ts)
+no_comma : {X L : Type 0} (c : Chain X L) (read : List Symbol → Option (X × List Symbol)) (k : ℕ) (ts : List Symbol) → after terminal.Comma ts ≡ None → more_by c read k ts ≡ Some (c.none, ts)
+no_comma c read zero ts e = refl
+no_comma c read (suc k) [] e = refl
+no_comma c read (suc k) (symbol.Terminal terminal.Comma ∷ ts) e = absurd cc
+no_comma c read (suc k) (s ∷ ts) e = refl
+
+-- a list of one part, so far
+pub one_read : {X L : Type 0} (c : Chain X L) (read : List Symbol → Option (X × List Symbol)) (k : ℕ) (front : L) (first : X) (rest behind : List Symbol)
+    → front ≡ c.more first c.none → behind ≡ rest → k ≡ length rest → with_front c front (more_by c read k behind) ≡ with_first c first (more_by c read (length rest) rest)
+one_read c read k front first rest behind e same n =
+    let all = more_by c read (length rest) rest in
+    let moved : with_front c front (more_by c read k behind) ≡ with_front c (c.appended c.none first) all = rw (e, same, n, c.one first) refl in
+    moved ∙ goes_on c c.none first (with_first c first all) all _ refl refl ∙ begins c c.none (with_first c first all) refl
+
+pub comma_goes_on : {X L : Type 0} (c : Chain X L) (read : List Symbol → Option (X × List Symbol)) (k j : ℕ) (front : L) (x : X) (rest next behind : List Symbol) (total : Found L)
+    → k ≡ suc j → after terminal.Comma rest ≡ Some next → read next ≡ Some (x, behind)
+    → with_front c front (more_by c read k rest) ≡ total → with_front c (c.appended front x) (more_by c read j behind) ≡ total
+comma_goes_on c read k j front x rest next behind total n a h so_far =
+    goes_on c front x (more_by c read k rest) (more_by c read j behind) total (rw (n, comma_is rest next a, h) refl) so_far
+
+pub comma_stops : {X L : Type 0} (c : Chain X L) (read : List Symbol → Option (X × List Symbol)) (k : ℕ) (front : L) (rest : List Symbol) (total : Found L)
+    → after terminal.Comma rest ≡ None → with_front c front (more_by c read k rest) ≡ total → total ≡ Some (front, rest)
+comma_stops c read k front rest total a so_far = ends c front rest (more_by c read k rest) total (no_comma c read k rest a) so_far
+
+pub comma_done : {X L : Type 0} (c : Chain X L) (read : List Symbol → Option (X × List Symbol)) (k : ℕ) (front : L) (rest : List Symbol) (total : Found L)
+    → k ≡ 0 → with_front c front (more_by c read k rest) ≡ total → total ≡ Some (front, rest)
+comma_done c read k front rest total z so_far = ends c front rest (more_by c read k rest) total (ap (λ n. more_by c read n rest) z) so_far
+
+pub comma_fails : {X L : Type 0} (c : Chain X L) (e : Stop) (read : List Symbol → Option (X × List Symbol)) (k j : ℕ) (front : L) (rest next : List Symbol) (total : Found L)
+    → k ≡ suc j → after terminal.Comma rest ≡ Some next → Fails e (read next) → with_front c front (more_by c read k rest) ≡ total → Fails e total
+comma_fails c e read k j front rest next total n a h so_far =
+    stops c e front (read next) (more_by c read k rest) total h (λ none. rw (n, comma_is rest next a, none) refl) so_far
+
+-- ---- expressions and labels
+
+pub joined_trees : Trees → Trees → Trees
+joined_trees trees.end ys = ys
+joined_trees (trees.more x xs) ys = trees.more x (joined_trees xs ys)
+
+pub before_none : (xs : Trees) → joined_trees xs trees.end ≡ xs
+unfolding joined_trees
+before_none trees.end = refl
+before_none (trees.more x xs) = ap (trees.more x) (before_none xs)
+
+pub along : (xs : Trees) (x : Tree) (ys : Trees) → joined_trees (trees.appended xs x) ys ≡ joined_trees xs (trees.more x ys)
+unfolding joined_trees
+along trees.end x ys = refl
+along (trees.more z zs) x ys = ap (trees.more z) (along zs x ys)
+
+pub behind_none : (xs : Trees) → joined_trees trees.end xs ≡ xs
+unfolding joined_trees
+behind_none xs = refl
+
+abbrev pub of_trees : Chain Tree Trees
+of_trees = record { none = trees.end; more = trees.more; appended = trees.appended; joined = joined_trees; behind_none = behind_none; before_none = before_none; one = λ x. refl; along = along }
+
+same_step : {A B : Type 0} (o : Option A) (f g : A → Option B) → ((a : A) → f a ≡ g a) → (o >>= f) ≡ (o >>= g)
+same_step (Some a) f g e = e a
+same_step None f g e = refl
+
+more_in-is : (r : Readers) (k : ℕ) (ts : List Symbol) → more_in r k ts ≡ more_by of_trees r.full k ts
 unfolding more_in
-no_comma r zero ts e = refl
-no_comma r (suc k) [] e = refl
-no_comma r (suc k) (symbol.Terminal terminal.Comma ∷ ts) e = absurd cc
-no_comma r (suc k) (s ∷ ts) e = refl
+more_in-is r zero ts = refl
+more_in-is r (suc k) [] = refl
+more_in-is r (suc k) (symbol.Terminal terminal.Comma ∷ ts) = same_step (r.full ts) _ _ (λ first. ap (with_first of_trees first.0) (more_in-is r k first.1))
+more_in-is r (suc k) (s ∷ ts) = refl
 
-nothing_more : (front : Trees) (ts : List Symbol) (read : Found) → read ≡ Some (end, ts) → with_front front read ≡ Some (front, ts)
-nothing_more front ts read e = rw e (ap (λ (es : Trees). Some (es, ts)) (joined-end front))
+pub list_begins : (r : Readers) (k : ℕ) (front : Trees) (first : Tree) (rest behind : List Symbol)
+    → front ≡ trees.more first trees.end → behind ≡ rest → k ≡ length rest → with_front of_trees front (more_by of_trees r.full k behind) ≡ list_from r first rest
+unfolding list_from
+list_begins r k front first rest behind e same n =
+    one_read of_trees r.full k front first rest behind e same n ∙ ap (with_first of_trees first) (sym (more_in-is r (length rest) rest))
 
-pub goes_on : (r : Readers) (k j : ℕ) (front : Trees) (e : Tree) (rest next behind : List Symbol) (total : Found) → k ≡ suc j → after terminal.Comma rest ≡ Some next → r.full next ≡ Some (e, behind)
-    → with_front front (more_in r k rest) ≡ total → with_front (appended front e) (more_in r j behind) ≡ total
-unfolding more_in
-goes_on r k j front e rest next behind total n c h so_far =
-    let one : with_front front (more_in r k rest) ≡ with_front (appended front e) (more_in r j behind) = rw (n, comma_is rest next c, h) (regroup front e (more_in r j behind)) in
-    sym one ∙ so_far
+more_labels-is : (r : Readers) (wild : Bool) (k : ℕ) (ts : List Symbol) → more_labels r wild k ts ≡ more_by of_trees (label_in r wild) k ts
+unfolding more_labels
+more_labels-is r wild zero ts = refl
+more_labels-is r wild (suc k) [] = refl
+more_labels-is r wild (suc k) (symbol.Terminal terminal.Comma ∷ ts) = same_step (label_in r wild ts) _ _ (λ first. ap (with_first of_trees first.0) (more_labels-is r wild k first.1))
+more_labels-is r wild (suc k) (s ∷ ts) = refl
 
-pub stops : (r : Readers) (k : ℕ) (front : Trees) (rest : List Symbol) (total : Found) → after terminal.Comma rest ≡ None → with_front front (more_in r k rest) ≡ total → total ≡ Some (front, rest)
-stops r k front rest total c so_far = sym so_far ∙ nothing_more front rest (more_in r k rest) (no_comma r k rest c)
+pub labels_begin : (r : Readers) (wild : Bool) (k : ℕ) (front : Trees) (first : Tree) (ts rest behind : List Symbol)
+    → label_in r wild ts ≡ Some (first, rest) → front ≡ trees.more first trees.end → behind ≡ rest → k ≡ length rest
+    → with_front of_trees front (more_by of_trees (label_in r wild) k behind) ≡ labels_in r wild ts
+unfolding labels_in
+labels_begin r wild k front first ts rest behind h e same n =
+    one_read of_trees (label_in r wild) k front first rest behind e same n ∙ ap (with_first of_trees first) (sym (more_labels-is r wild (length rest) rest)) ∙ rw h refl
 
-pub is_done : (r : Readers) (k : ℕ) (front : Trees) (rest : List Symbol) (total : Found) → k ≡ 0 → with_front front (more_in r k rest) ≡ total → total ≡ Some (front, rest)
-unfolding more_in
-is_done r k front rest total z so_far = sym so_far ∙ nothing_more front rest (more_in r k rest) (ap (λ n. more_in r n rest) z)
+-- ---- targets
 
-pub fails : (e : Stop) (r : Readers) (k j : ℕ) (front : Trees) (rest next : List Symbol) (total : Found) → k ≡ suc j → after terminal.Comma rest ≡ Some next → Fails e (r.full next)
-    → with_front front (more_in r k rest) ≡ total → Fails e total
-unfolding more_in
-fails stop.NoMemory r k j front rest next total n c h so_far = tt
-fails stop.NoTree r k j front rest next total n c h so_far =
-    let one : with_front front (more_in r k rest) ≡ None = rw (n, comma_is rest next c, h) refl in
-    sym so_far ∙ one
+pub joined_targets : Places → Places → Places
+joined_targets targets.end ys = ys
+joined_targets (targets.more x xs) ys = targets.more x (joined_targets xs ys)
+
+pub before_no_target : (xs : Places) → joined_targets xs targets.end ≡ xs
+unfolding joined_targets
+before_no_target targets.end = refl
+before_no_target (targets.more x xs) = ap (targets.more x) (before_no_target xs)
+
+pub along_targets : (xs : Places) (x : Place) (ys : Places) → joined_targets (targets.appended xs x) ys ≡ joined_targets xs (targets.more x ys)
+unfolding joined_targets
+along_targets targets.end x ys = refl
+along_targets (targets.more z zs) x ys = ap (targets.more z) (along_targets zs x ys)
+
+pub behind_no_target : (xs : Places) → joined_targets targets.end xs ≡ xs
+unfolding joined_targets
+behind_no_target xs = refl
+
+abbrev pub of_targets : Chain Place Places
+of_targets = record { none = targets.end; more = targets.more; appended = targets.appended; joined = joined_targets; behind_none = behind_no_target; before_none = before_no_target; one = λ x. refl; along = along_targets }
+
+more_targets-is : (target : TargetReader) (k : ℕ) (ts : List Symbol) → more_targets target k ts ≡ more_by of_targets target k ts
+unfolding more_targets
+more_targets-is target zero ts = refl
+more_targets-is target (suc k) [] = refl
+more_targets-is target (suc k) (symbol.Terminal terminal.Comma ∷ ts) = same_step (target ts) _ _ (λ first. ap (with_first of_targets first.0) (more_targets-is target k first.1))
+more_targets-is target (suc k) (s ∷ ts) = refl
+
+pub targets_begin : (target : TargetReader) (k : ℕ) (front : Places) (first : Place) (ts rest behind : List Symbol)
+    → target ts ≡ Some (first, rest) → front ≡ targets.more first targets.end → behind ≡ rest → k ≡ length rest
+    → with_front of_targets front (more_by of_targets target k behind) ≡ targets_in target ts
+unfolding targets_in
+targets_begin target k front first ts rest behind h e same n =
+    one_read of_targets target k front first rest behind e same n ∙ ap (with_first of_targets first) (sym (more_targets-is target (length rest) rest)) ∙ rw h refl

@@ -1,13 +1,23 @@
-//! Reads expressions from symbols.
+//! Reads expressions, targets and statements from symbols.
 #![tactic(auto)]
 
+mod blocks;
+mod expressions;
+mod labels;
+mod operators;
 mod parsed;
-mod reading;
+mod statements;
 mod stop;
+mod targets;
+mod terminals;
+mod trees;
 
-pub use parsed::{Many, Parsed};
-pub use reading::{Answer, after, expression, full};
+pub use expressions::{Answer, expression, read_expression};
+pub use parsed::{Many, Parsed, ParsedStmt, ParsedTarget};
+pub use statements::{StmtAnswer, read_statement};
 pub use stop::Stop;
+pub use targets::{TargetAnswer, read_target};
+pub use terminals::after;
 
 #[cfg(test)]
 mod tests;

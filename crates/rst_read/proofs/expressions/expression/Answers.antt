@@ -5,7 +5,7 @@ use Rattle.std.proofs.lemmas.List.{nil_from_length}
 use Rattle.std.proofs.lemmas.Result.{err_from_is_err_and}
 use Rattle.rst_tree.specs.Trees.{plain}
 use Rattle.rst_read.proofs.Laws.{whole_sound, whole_only, only_err}
-use Rattle.rst_read.proofs.reading.expression.Goals as goal
+use Rattle.rst_read.proofs.expressions.expression.Goals as goal
 
 pub returns-in_err-found-clause-only : goal.returns-in_err-found-clause-only
 returns-in_err-found-clause-only c = λ e spelled small.

@@ -1,208 +1,29 @@
 // Reading expressions, one function for each reader of the grammar's specification.
 
-ghost use Rattle.std.specs.Prelude.{◌≡◌, ◌+◌, ◌≤◌, max, IfOk, Some, IsTrue, ◌↔◌};
-ghost use Rattle.std.specs.Option.{option_map};
-ghost use Rattle.rst_tree.specs.Trees.{Tree, plain, plain_all, height, more, end, appended, Binary, Join, Repeat};
-ghost use Rattle.rst_grammar.specs.Expressions.{unary_of, binary_of, level, Spells};
-ghost use Rattle.rst_grammar.specs.Reading.{after, number_of, with_right, operator_at, part_end, select_end, named_in, number_in, terminal_in, paren_in, signed_in, unsigned_in, list_from, repeat_in, join_in, braces_in, braces_end, unary_in, operand_in, binary_in, choice_in, choice_end, full_in, readers};
-ghost use Rattle.rst_grammar.specs.declared.symbol.Terminal.TheVariants.{Comma};
-ghost use Rattle.rst_read.specs.Gives.{Gives, seen, seen_all, rest_of};
+ghost use Rattle.std.specs.Prelude.{◌≡◌, ◌+◌, ◌≤◌, IfOk, Some};
+ghost use Rattle.rst_tree.specs.Trees.{Tree, plain, height};
+ghost use Rattle.rst_grammar.specs.Expressions.{Spells};
+ghost use Rattle.rst_grammar.specs.Reading.{with_right, part_end, select_end, named_in, number_in, terminal_in, paren_in, signed_in, unsigned_in, list_from, repeat_in, join_in, braces_in, braces_end, unary_in, operand_in, binary_in, choice_in, choice_end, full_in, readers};
+ghost use Rattle.rst_read.specs.Gives.{Gives, seen, seen_all};
 
+use crate::operators::{level, operator_at, unary_of};
 use crate::parsed::{Many, Parsed};
 use crate::stop::Stop;
+use crate::terminals::{after, behind};
+use crate::trees::{alone, and, binary_tree, joined, repeated};
 use rst_grammar::{NameText, Symbol, Terminal};
 use rst_lex::Literal;
 use rst_outside::Name;
 use rst_tree::Expr;
-use rst_word::{BinaryOp, UnaryOp};
-use std::alloc::{AllocError, Global};
+use rst_word::BinaryOp;
+use std::alloc::Global;
 
-fn unary_of(terminal: Terminal) -> Option<UnaryOp>
-    ensures { result ≡ unary_of terminal }
-{
-    match terminal {
-        Terminal::Plus => Some(UnaryOp::Plus),
-        Terminal::Minus => Some(UnaryOp::Minus),
-        Terminal::Bang => Some(UnaryOp::Not),
-        Terminal::Tilde => Some(UnaryOp::Invert),
-        Terminal::Amp => Some(UnaryOp::And),
-        Terminal::TildeAmp => Some(UnaryOp::Nand),
-        Terminal::Bar => Some(UnaryOp::Or),
-        Terminal::TildeBar => Some(UnaryOp::Nor),
-        Terminal::Caret => Some(UnaryOp::Xor),
-        Terminal::TildeCaret => Some(UnaryOp::Xnor),
-        _ => None,
-    }
-}
-
-fn binary_of(terminal: Terminal) -> Option<BinaryOp>
-    ensures { result ≡ binary_of terminal }
-{
-    match terminal {
-        Terminal::Star => Some(BinaryOp::Mul),
-        Terminal::Slash => Some(BinaryOp::Div),
-        Terminal::Percent => Some(BinaryOp::Rem),
-        Terminal::Plus => Some(BinaryOp::Add),
-        Terminal::Minus => Some(BinaryOp::Sub),
-        Terminal::ShiftLeft => Some(BinaryOp::Shl),
-        Terminal::ShiftRight => Some(BinaryOp::Shr),
-        Terminal::ArithShiftLeft => Some(BinaryOp::ArithShl),
-        Terminal::ArithShiftRight => Some(BinaryOp::ArithShr),
-        Terminal::Less => Some(BinaryOp::Lt),
-        Terminal::LessEqual => Some(BinaryOp::Le),
-        Terminal::Greater => Some(BinaryOp::Gt),
-        Terminal::GreaterEqual => Some(BinaryOp::Ge),
-        Terminal::EqualEqual => Some(BinaryOp::Eq),
-        Terminal::BangEqual => Some(BinaryOp::Ne),
-        Terminal::Amp => Some(BinaryOp::And),
-        Terminal::Caret => Some(BinaryOp::Xor),
-        Terminal::TildeCaret => Some(BinaryOp::Xnor),
-        Terminal::Bar => Some(BinaryOp::Or),
-        Terminal::AmpAmp => Some(BinaryOp::LogicAnd),
-        Terminal::BarBar => Some(BinaryOp::LogicOr),
-        _ => None,
-    }
-}
-
-fn level(op: BinaryOp) -> u8
-    ensures { result ≡ level op }
-{
-    match op {
-        BinaryOp::Mul | BinaryOp::Div | BinaryOp::Rem => 10,
-        BinaryOp::Add | BinaryOp::Sub => 9,
-        BinaryOp::Shl | BinaryOp::Shr | BinaryOp::ArithShl | BinaryOp::ArithShr => 8,
-        BinaryOp::Lt | BinaryOp::Le | BinaryOp::Gt | BinaryOp::Ge => 7,
-        BinaryOp::Eq | BinaryOp::Ne => 6,
-        BinaryOp::And => 5,
-        BinaryOp::Xor | BinaryOp::Xnor => 4,
-        BinaryOp::Or => 3,
-        BinaryOp::LogicAnd => 2,
-        BinaryOp::LogicOr => 1,
-    }
-}
-
-// The number of a terminal, by which two are compared.
-fn number_of(terminal: Terminal) -> u8
-    ensures { result ≡ number_of terminal }
-{
-    match terminal {
-        Terminal::OpenParen => 0,
-        Terminal::CloseParen => 1,
-        Terminal::OpenBracket => 2,
-        Terminal::CloseBracket => 3,
-        Terminal::OpenBrace => 4,
-        Terminal::CloseBrace => 5,
-        Terminal::Comma => 6,
-        Terminal::Semicolon => 7,
-        Terminal::Colon => 8,
-        Terminal::Dot => 9,
-        Terminal::Hash => 10,
-        Terminal::At => 11,
-        Terminal::Equal => 12,
-        Terminal::Question => 13,
-        Terminal::Plus => 14,
-        Terminal::Minus => 15,
-        Terminal::Bang => 16,
-        Terminal::Tilde => 17,
-        Terminal::Amp => 18,
-        Terminal::Bar => 19,
-        Terminal::Caret => 20,
-        Terminal::Star => 21,
-        Terminal::Slash => 22,
-        Terminal::Percent => 23,
-        Terminal::Less => 24,
-        Terminal::Greater => 25,
-        Terminal::ShiftLeft => 26,
-        Terminal::ShiftRight => 27,
-        Terminal::ArithShiftLeft => 28,
-        Terminal::ArithShiftRight => 29,
-        Terminal::LessEqual => 30,
-        Terminal::GreaterEqual => 31,
-        Terminal::EqualEqual => 32,
-        Terminal::BangEqual => 33,
-        Terminal::AmpAmp => 34,
-        Terminal::BarBar => 35,
-        Terminal::TildeAmp => 36,
-        Terminal::TildeBar => 37,
-        Terminal::TildeCaret => 38,
-        Terminal::Module => 39,
-        Terminal::Endmodule => 40,
-        Terminal::Input => 41,
-        Terminal::Output => 42,
-        Terminal::Wire => 43,
-        Terminal::Reg => 44,
-        Terminal::Signed => 45,
-        Terminal::Parameter => 46,
-        Terminal::Localparam => 47,
-        Terminal::Assign => 48,
-        Terminal::Always => 49,
-        Terminal::Posedge => 50,
-        Terminal::Negedge => 51,
-        Terminal::Or => 52,
-        Terminal::Begin => 53,
-        Terminal::End => 54,
-        Terminal::If => 55,
-        Terminal::Else => 56,
-        Terminal::Case => 57,
-        Terminal::Casez => 58,
-        Terminal::Default => 59,
-        Terminal::Endcase => 60,
-        Terminal::SystemSigned => 61,
-        Terminal::SystemUnsigned => 62,
-    }
-}
-
-// The symbols behind this terminal, where it stands in front.
-fn behind<'s, 'a>(symbols: &'s [Symbol<'a>], terminal: Terminal) -> Option<&'s [Symbol<'a>]>
-    ensures { option_map (λ x. x.now) result ≡ after terminal symbols.now }
-{
-    let (first, rest) = symbols.split_first()?;
-    let Symbol::Terminal(found) = first else {
-        return None;
-    };
-    if number_of(*found) == number_of(terminal) {
-        Some(rest)
-    } else {
-        None
-    }
-}
-
-/// The symbols behind this terminal, or NoTree where it doesn't stand in front.
-pub fn after<'s, 'a>(
-    symbols: &'s [Symbol<'a>],
-    terminal: Terminal,
-) -> Result<&'s [Symbol<'a>], Stop>
-    ensures { Gives rest_of result (after terminal symbols.now) }
-{
-    match behind(symbols, terminal) {
-        Some(rest) => Ok(rest),
-        None => Err(Stop::NoTree),
-    }
-}
-
-/// The operator in front, if it is of this level or a tighter one.
-#[tactic(auto, unfolding(rst_grammar::specs::Reading::operator_at))]
-fn operator_at<'s, 'a>(symbols: &'s [Symbol<'a>], least: u8) -> Option<(BinaryOp, &'s [Symbol<'a>])>
-    ensures { option_map (λ x. (x.0, x.1.now)) result ≡ operator_at least symbols.now }
-{
-    let (first, rest) = symbols.split_first()?;
-    let Symbol::Terminal(mark) = first else {
-        return None;
-    };
-    let op = binary_of(*mark)?;
-    if level(op) >= least {
-        Some((op, rest))
-    } else {
-        None
-    }
-}
-
-/// What an expression reader answers: the tree with its height, and the symbols behind it.
+/// What reading an expression answers: the tree with its height, and the symbols behind it.
 pub type Answer<'s, 'a> = Result<(Parsed, &'s [Symbol<'a>]), Stop>;
 
 /// The expression in front, of a height of at most `limit`.
 #[cycle(read)]
-pub fn full<'s, 'a>(alloc: Global, symbols: &'s [Symbol<'a>], limit: u8) -> Answer<'s, 'a>
+pub fn read_expression<'s, 'a>(alloc: Global, symbols: &'s [Symbol<'a>], limit: u8) -> Answer<'s, 'a>
     ensures reads { Gives seen result ((readers limit).full symbols.now) }
     ensures within { IfOk result (λ x. x.0.depth ≤ limit) }
 {
@@ -277,7 +98,7 @@ fn paren_in<'s, 'a>(alloc: Global, rest: &'s [Symbol<'a>], below: u8) -> Answer<
     ensures reads { Gives seen result (paren_in (readers below) rest.now) }
     ensures within { IfOk result (λ x. x.0.depth ≤ below + 1) }
 {
-    let (inner, rest) = full(alloc, rest, below)?;
+    let (inner, rest) = read_expression(alloc, rest, below)?;
     let rest = after(rest, Terminal::CloseParen)?;
     let depth = inner.depth + 1;
     let tree = Expr::Paren(Box::new(alloc, inner.tree)?);
@@ -291,7 +112,7 @@ fn signed_in<'s, 'a>(alloc: Global, rest: &'s [Symbol<'a>], below: u8) -> Answer
     ensures within { IfOk result (λ x. x.0.depth ≤ below + 1) }
 {
     let rest = after(rest, Terminal::OpenParen)?;
-    let (inner, rest) = full(alloc, rest, below)?;
+    let (inner, rest) = read_expression(alloc, rest, below)?;
     let rest = after(rest, Terminal::CloseParen)?;
     let depth = inner.depth + 1;
     let tree = Expr::Signed(Box::new(alloc, inner.tree)?);
@@ -305,7 +126,7 @@ fn unsigned_in<'s, 'a>(alloc: Global, rest: &'s [Symbol<'a>], below: u8) -> Answ
     ensures within { IfOk result (λ x. x.0.depth ≤ below + 1) }
 {
     let rest = after(rest, Terminal::OpenParen)?;
-    let (inner, rest) = full(alloc, rest, below)?;
+    let (inner, rest) = read_expression(alloc, rest, below)?;
     let rest = after(rest, Terminal::CloseParen)?;
     let depth = inner.depth + 1;
     let tree = Expr::Unsigned(Box::new(alloc, inner.tree)?);
@@ -347,7 +168,7 @@ fn named_in<'s, 'a>(
         let tree = Expr::Name(Name::new(alloc, name.as_slice())?);
         return Ok((Parsed { tree, depth: 1 }, rest));
     };
-    let (index, rest) = full(alloc, rest, below)?;
+    let (index, rest) = read_expression(alloc, rest, below)?;
     select_end(alloc, name, index, rest, below)
 }
 
@@ -389,7 +210,7 @@ fn part_end<'s, 'a>(
     ensures reads { Gives seen result (part_end (readers below) name.now (plain high.tree) rest.now) }
     ensures within { IfOk result (λ x. x.0.depth ≤ below + 1) }
 {
-    let (low, rest) = full(alloc, rest, below)?;
+    let (low, rest) = read_expression(alloc, rest, below)?;
     let rest = after(rest, Terminal::CloseBracket)?;
     let depth = high.depth.max(low.depth) + 1;
     let name = Name::new(alloc, name.as_slice())?;
@@ -430,14 +251,6 @@ fn binary_in<'s, 'a>(
         rest = after;
     }
     Err(Stop::NoTree)
-}
-
-// A binary operator over its operands.
-fn binary_tree(alloc: Global, op: BinaryOp, left: Expr, right: Expr) -> Result<Expr, AllocError>
-    ensures { IfOk result (λ e. plain e ≡ Binary op (plain left) (plain right)) }
-{
-    let left = Box::new(alloc, left)?;
-    Ok(Expr::Binary(op, left, Box::new(alloc, right)?))
 }
 
 #[cycle(read)]
@@ -489,9 +302,9 @@ fn choice_in<'s, 'a>(
     ensures reads { Gives seen result (choice_in (readers below) (plain test.tree) rest.now) }
     ensures within { IfOk result (λ x. x.0.depth ≤ below + 1) }
 {
-    let (yes, rest) = full(alloc, rest, below)?;
+    let (yes, rest) = read_expression(alloc, rest, below)?;
     let rest = after(rest, Terminal::Colon)?;
-    let (no, rest) = full(alloc, rest, below)?;
+    let (no, rest) = read_expression(alloc, rest, below)?;
     let depth = test.depth.max(yes.depth.max(no.depth)) + 1;
     let test = Box::new(alloc, test.tree)?;
     let yes = Box::new(alloc, yes.tree)?;
@@ -505,27 +318,11 @@ fn braces_in<'s, 'a>(alloc: Global, rest: &'s [Symbol<'a>], below: u8) -> Answer
     ensures reads { Gives seen result (braces_in (readers below) rest.now) }
     ensures within { IfOk result (λ x. x.0.depth ≤ below + 1) }
 {
-    let (first, rest) = full(alloc, rest, below)?;
+    let (first, rest) = read_expression(alloc, rest, below)?;
     match rest {
         [Symbol::Terminal(Terminal::OpenBrace), rest @ ..] => repeat_in(alloc, first, rest, below),
         _ => join_in(alloc, first, rest, below),
     }
-}
-
-// A join of these parts.
-#[tactic(auto, using(rst_tree::proofs::Rows::rows))]
-fn joined(parts: Vec<Expr>) -> Expr
-    ensures { plain result ≡ Join (plain_all parts.items) }
-{
-    Expr::Join(parts)
-}
-
-// These parts, this many times.
-fn repeated(alloc: Global, count: Expr, parts: Vec<Expr>) -> Result<Expr, AllocError>
-    ensures { IfOk result (λ e. plain e ≡ Repeat (plain count) (plain_all parts.items)) }
-{
-    let count = Box::new(alloc, count)?;
-    Ok(Expr::Repeat(count, parts))
 }
 
 #[cycle(read)]
@@ -559,7 +356,7 @@ fn repeat_in<'s, 'a>(
     ensures reads { Gives seen result (repeat_in (readers below) (plain count.tree) rest.now) }
     ensures within { IfOk result (λ x. x.0.depth ≤ below + 1) }
 {
-    let (first, rest) = full(alloc, rest, below)?;
+    let (first, rest) = read_expression(alloc, rest, below)?;
     let (all, rest) = list_from(alloc, first, rest, below)?;
     let rest = after(rest, Terminal::CloseBrace)?;
     let rest = after(rest, Terminal::CloseBrace)?;
@@ -582,51 +379,14 @@ fn list_from<'s, 'a>(
     let turns = rest.len();
     let (mut all, mut rest) = alone(alloc, first, rest)?;
     for _ in 0..turns {
-        let Some(after) = after_comma(rest) else {
+        let Some(after) = behind(rest, Terminal::Comma) else {
             return Ok((all, rest));
         };
-        let (next, after) = full(alloc, after, below)?;
+        let (next, after) = read_expression(alloc, after, below)?;
         all = and(all, next)?;
         rest = after;
     }
     Ok((all, rest))
-}
-
-// What follows a comma.
-fn after_comma<'s, 'a>(symbols: &'s [Symbol<'a>]) -> Option<&'s [Symbol<'a>]>
-    ensures { option_map (λ x. x.now) result ≡ after Comma symbols.now }
-{
-    match symbols {
-        [Symbol::Terminal(Terminal::Comma), rest @ ..] => Some(rest),
-        _ => None,
-    }
-}
-
-// A list of one, and the symbols behind it.
-fn alone<'s, 'a>(
-    alloc: Global,
-    first: Parsed,
-    rest: &'s [Symbol<'a>],
-) -> Result<(Many, &'s [Symbol<'a>]), AllocError>
-    ensures trees { IfOk result (λ x. plain_all x.0.trees.items ≡ more (plain first.tree) end) }
-    ensures depth { IfOk result (λ x. x.0.depth ≡ first.depth) }
-    ensures behind { IfOk result (λ x. x.1.now ≡ rest.now) }
-{
-    let mut trees = Vec::new(alloc);
-    let depth = first.depth;
-    trees.push(first.tree)?;
-    Ok((Many { trees, depth }, rest))
-}
-
-// A list with one more behind it.
-#[tactic(auto, using(crate::proofs::Rows::pushes))]
-fn and(all: Many, next: Parsed) -> Result<Many, AllocError>
-    ensures { IfOk result (λ m. (plain_all m.trees.items ≡ appended (plain_all all.trees.items) (plain next.tree)) × (m.depth ≡ max all.depth next.depth)) }
-{
-    let mut trees = all.trees;
-    let depth = all.depth.max(next.depth);
-    trees.push(next.tree)?;
-    Ok(Many { trees, depth })
 }
 
 /// The expression that the symbols spell, of a height of at most 200.
@@ -636,7 +396,7 @@ pub fn expression<'a>(alloc: Global, symbols: &[Symbol<'a>]) -> Result<Expr, Sto
     // What is spelled so is read, unless memory runs out.
     ensures only { (e : Tree) → Spells e symbols.now → height e ≤ 200 → Gives plain result (Some e) }
 {
-    let (found, rest) = full(alloc, symbols, 200)?;
+    let (found, rest) = read_expression(alloc, symbols, 200)?;
     if !rest.is_empty() {
         return Err(Stop::NoTree);
     }

@@ -1,11 +1,12 @@
 use Rattle.std.proofs.Common.{◌≡◌, ◌≤◌, ◌+◌, ◌-◌, ◌*◌}
 use Rattle.rst_tree.specs.Trees.{plain, plain_all}
-use Rattle.rst_grammar.specs.Reading.{readers, tail_in, binary_in, more_in, list_from}
-use Rattle.rst_read.proofs.Lists.{with_front}
-use Rattle.rst_read.proofs.reading.+read.Given as goal
+use Rattle.rst_grammar.specs.Reading.{readers, tail_in, binary_in, list_from}
+use Rattle.rst_read.proofs.Chains.{with_front}
+use Rattle.rst_read.proofs.Lists.{more_by, of_trees}
+use Rattle.rst_read.proofs.expressions.+read.Given as goal
 
-abbrev pub decreases-full : goal.decreases-full
-decreases-full l = 8 * l.limit
+abbrev pub decreases-read_expression : goal.decreases-read_expression
+decreases-read_expression l = 8 * l.limit
 
 abbrev pub decreases-operand : goal.decreases-operand
 decreases-operand l = 8 * l.limit
@@ -73,6 +74,6 @@ invariant-binary_in-loop l = record {
 
 abbrev pub invariant-list_from-loop : goal.invariant-list_from-loop
 invariant-list_from-loop l = record {
-  reads : with_front (plain_all l.all.trees.items) (more_in (readers l.below) (l.turns - l.counter) l.rest) ≡ list_from (readers l.below) (plain l.fn.first.tree) l.fn.rest;
+  reads : with_front of_trees (plain_all l.all.trees.items) (more_by of_trees (readers l.below).full (l.turns - l.counter) l.rest) ≡ list_from (readers l.below) (plain l.fn.first.tree) l.fn.rest;
   within : l.all.depth ≤ l.below;
 }
