@@ -8,5 +8,5 @@ mod Numbers
 mod LexFronts
 mod LexPieces
 mod Worth
-mod LexLoop
+pub mod LexLoop
 mod OneReading

@@ -17,7 +17,7 @@ pub use parsed::{Many, Parsed, ParsedStmt, ParsedTarget};
 pub use statements::{StmtAnswer, read_statement};
 pub use stop::Stop;
 pub use targets::{TargetAnswer, read_target};
-pub use terminals::after;
+pub use terminals::{after, behind};
 
 #[cfg(test)]
 mod tests;

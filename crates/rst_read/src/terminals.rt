@@ -15,7 +15,7 @@ fn number_of(terminal: Terminal) -> u8
     terminal as u8
 }
 
-// The symbols behind this terminal, where it stands in front.
+/// The symbols behind this terminal, where it stands in front.
 pub fn behind<'s, 'a>(symbols: &'s [Symbol<'a>], terminal: Terminal) -> Option<&'s [Symbol<'a>]>
     ensures { option_map (λ x. x.now) result ≡ after terminal symbols.now }
 {
