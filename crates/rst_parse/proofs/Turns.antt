@@ -43,12 +43,12 @@ begins_not stop.NoMemory next one ts r = tt
 begins_not stop.NoTree next one ts r = rw r refl
 
 -- one part more
-pub goes_on : {A : Type 0} (next : SeparatorReader) (one : ReaderOf A) (k j : ℕ) (front : List A) (x : A) (rest after behind : List Symbol) (total : Found A) → k ≡ suc j → next rest ≡ Some after → one after ≡ Some (x, behind)
-    → with_front front (more_separated next one k rest) ≡ total → with_front (front ++ x ∷ []) (more_separated next one j behind) ≡ total
+pub goes_on : {A : Type 0} (next : SeparatorReader) (one : ReaderOf A) (k j : ℕ) (front longer : List A) (x : A) (rest after behind : List Symbol) (total : Found A) → k ≡ suc j → longer ≡ front ++ x ∷ [] → next rest ≡ Some after → one after ≡ Some (x, behind)
+    → with_front front (more_separated next one k rest) ≡ total → with_front longer (more_separated next one j behind) ≡ total
 unfolding more_separated
-goes_on next one k j front x rest after behind total n s r so_far =
+goes_on next one k j front longer x rest after behind total n l s r so_far =
     let again : with_front front (more_separated next one k rest) ≡ with_front (front ++ x ∷ []) (more_separated next one j behind) = rw (n, s, r) (regroup front x (more_separated next one j behind)) in
-    sym again ∙ so_far
+    ap (λ xs. with_front xs (more_separated next one j behind)) l ∙ sym again ∙ so_far
 
 no_separator : {A : Type 0} (next : SeparatorReader) (one : ReaderOf A) (k : ℕ) (rest : List Symbol) → next rest ≡ None → more_separated next one k rest ≡ Some ([], rest)
 unfolding more_separated
@@ -82,12 +82,12 @@ pub until_begins : {A : Type 0} (t : Terminal) (one : ReaderOf A) (ts : List Sym
 until_begins t one ts = nothing_before (until t one (length ts) ts)
 
 -- one part more
-pub until_goes : {A : Type 0} (t : Terminal) (one : ReaderOf A) (k j : ℕ) (front : List A) (x : A) (rest behind : List Symbol) (total : Found A) → k ≡ suc j → after t rest ≡ None → one rest ≡ Some (x, behind)
-    → with_front front (until t one k rest) ≡ total → with_front (front ++ x ∷ []) (until t one j behind) ≡ total
+pub until_goes : {A : Type 0} (t : Terminal) (one : ReaderOf A) (k j : ℕ) (front longer : List A) (x : A) (rest behind : List Symbol) (total : Found A) → k ≡ suc j → longer ≡ front ++ x ∷ [] → after t rest ≡ None → one rest ≡ Some (x, behind)
+    → with_front front (until t one k rest) ≡ total → with_front longer (until t one j behind) ≡ total
 unfolding until
-until_goes t one k j front x rest behind total n s r so_far =
+until_goes t one k j front longer x rest behind total n l s r so_far =
     let again : with_front front (until t one k rest) ≡ with_front (front ++ x ∷ []) (until t one j behind) = rw (n, s, r) (regroup front x (until t one j behind)) in
-    sym again ∙ so_far
+    ap (λ xs. with_front xs (until t one j behind)) l ∙ sym again ∙ so_far
 
 -- the terminal
 pub until_ends : {A : Type 0} (t : Terminal) (one : ReaderOf A) (k j : ℕ) (front : List A) (rest behind : List Symbol) (total : Found A) → k ≡ suc j → after t rest ≡ Some behind

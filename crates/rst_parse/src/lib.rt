@@ -19,3 +19,6 @@ pub use parser::{ParseFault, parse};
 
 #[cfg(test)]
 mod tests;
+
+#[cfg(test)]
+mod item_tests;

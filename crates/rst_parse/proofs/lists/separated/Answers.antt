@@ -43,8 +43,8 @@ loop-preserved g c =
     let one = g.R.Reader.reader c.args.reader.now in
     let plain = g.R.Reader.plain in
     let j = n - (c.loop.counter + 1) in
-    let again = goes_on next one (n - c.loop.counter) j (map plain c.loop.parts.items) (plain c.in_ok-next.next) c.loop.rest.now c.in-Some.after.now c.in_ok-next.after.now (separated next one c.args.symbols.now) (omega arith) (sym c.in-Some.ensures) c.in_ok-next.ensures c.loop.invariant in
-    ap (λ ps. with_front ps (more_separated next one j c.in_ok-next.after.now)) (ap (map plain) c.in_ok-push.ensures.items ∙ map-append plain c.loop.parts.items (c.in_ok-next.next ∷ [])) ∙ again
+    let longer = ap (map plain) c.in_ok-push.ensures.items ∙ map-append plain c.loop.parts.items (c.in_ok-next.next ∷ []) in
+    goes_on next one (n - c.loop.counter) j (map plain c.loop.parts.items) (map plain c.push.new.self.items) (plain c.in_ok-next.next) c.loop.rest.now c.in-Some.after.now c.in_ok-next.after.now (separated next one c.args.symbols.now) (omega arith) longer (sym c.in-Some.ensures) c.in_ok-next.ensures c.loop.invariant
 
 pub returns : goal.returns
 returns g c =

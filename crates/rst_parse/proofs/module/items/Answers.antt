@@ -41,9 +41,8 @@ pub loop-preserved : goal.loop-preserved
 loop-preserved c =
     let n = length c.args.symbols.now in
     let j = n - (c.loop.counter + 1) in
-    let more = until_goes terminal.Endmodule (item_in 200) (n - c.loop.counter) j (map plain_item c.loop.items.items) (plain_item c.in_ok-next.next) c.loop.rest.now c.in_ok-next.after.now (items_in 200 c.args.symbols.now) (omega arith) (sym c.in_default.ensures) c.in_ok-next.ensures c.loop.invariant in
     let longer = ap (λ (xs : List Item). map plain_item xs) c.in_ok-push.ensures.items ∙ map-append plain_item c.loop.items.items (c.in_ok-next.next ∷ []) in
-    ap (λ xs. with_front xs (until terminal.Endmodule (item_in 200) j c.in_ok-next.after.now)) longer ∙ more
+    until_goes terminal.Endmodule (item_in 200) (n - c.loop.counter) j (map plain_item c.loop.items.items) (map plain_item c.push.new.self.items) (plain_item c.in_ok-next.next) c.loop.rest.now c.in_ok-next.after.now (items_in 200 c.args.symbols.now) (omega arith) longer (sym c.in_default.ensures) c.in_ok-next.ensures c.loop.invariant
 
 pub returns : goal.returns
 returns c = until_out terminal.Endmodule (item_in 200) (length c.args.symbols.now - c.loop.counter) (map plain_item c.loop.items.items) c.loop.rest.now (items_in 200 c.args.symbols.now) (omega arith) c.loop.invariant
