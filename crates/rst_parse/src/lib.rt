@@ -1,9 +1,15 @@
 //! From the tokens of a text to its modules.
 #![tactic(auto)]
 
+mod copies;
+mod declarations;
+mod items;
 mod laws;
+mod links;
+mod lists;
 mod module;
 mod parser;
+mod parts;
 mod pieces;
 mod spelling;
 mod symbols;
@@ -13,3 +19,6 @@ pub use parser::{ParseFault, parse};
 
 #[cfg(test)]
 mod tests;
+
+#[cfg(test)]
+mod item_tests;

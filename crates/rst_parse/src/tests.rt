@@ -20,7 +20,7 @@ fn fault_of(alloc: Global, text: &str) -> Option<ParseFault> {
 }
 
 // The only module of a text.
-fn module_of(alloc: Global, text: &str) -> Option<Module> {
+pub(crate) fn module_of(alloc: Global, text: &str) -> Option<Module> {
     let mut modules = parsed(alloc, text.as_bytes())?.ok()?.modules;
     let module = modules.pop()?;
     if modules.is_empty() {
