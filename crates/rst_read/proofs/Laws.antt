@@ -1,5 +1,5 @@
 -- A whole expression, or a whole statement.
-use Rattle.std.proofs.Common.{◌≡◌, ℕ, ◌≤◌, List, [], ◌++◌, Option, Some, None, Result, Ok, Err, refl, sym, ap, subst, ◌∙◌, arith}
+use Rattle.std.proofs.Common.{◌≡◌, ℕ, ◌≤◌, List, [], ◌++◌, Some, None, sym, ap, subst, ◌∙◌}
 use Rattle.std.proofs.lemmas.List.{append-nil}
 use Rattle.rst_tree.specs.Trees.{Tree, height}
 use Rattle.rst_grammar.specs.declared.symbol.Symbol.{Symbol}

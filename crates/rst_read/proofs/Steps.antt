@@ -1,5 +1,5 @@
 -- The readers of a height above 0, and the loop over operators.
-use Rattle.std.proofs.Common.{◌≡◌, ℕ, zero, suc, ◌+◌, ◌-◌, ◌<◌, List, length, Option, Some, None, refl, sym, ap, ◌∙◌, arith}
+use Rattle.std.proofs.Common.{◌≡◌, ℕ, zero, suc, ◌-◌, List, length, Option, Some, None, refl, sym, ap, ◌∙◌, arith}
 use Rattle.rst_tree.specs.Trees.{Tree}
 use Rattle.rst_tree.specs.Targets.{Place, Places}
 use Rattle.rst_tree.specs.Targets as targets
@@ -9,7 +9,7 @@ use Rattle.rst_grammar.specs.declared.symbol.Symbol.{Symbol}
 use Rattle.rst_read.specs.declared.stop.Stop.{Stop}
 use Rattle.rst_read.specs.declared.stop.Stop.TheVariants as stop
 use Rattle.rst_read.specs.Gives.{Fails}
-use Rattle.rst_grammar.specs.Reading.{Readers, readers, higher, operand_in, binary_in, full_in, tail_in, with_right, operator_at, after, cases, ◌>>=◌}
+use Rattle.rst_grammar.specs.Reading.{Readers, readers, higher, operand_in, binary_in, full_in, tail_in, with_right, operator_at, after, ◌>>=◌}
 use Rattle.rst_grammar.specs.ReadStatement.{TargetReader, more_targets, target_join, target_in, target_reader, stmt_in, stmt_reader}
 use Rattle.rst_read.specs.Parts.{targets_in, join_of}
 use Rattle.rst_read.proofs.Chains.{regrouped}

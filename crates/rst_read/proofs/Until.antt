@@ -1,5 +1,5 @@
 -- Reading the statements of a block, and the arms of a case, one after the other, as a loop does.
-use Rattle.std.proofs.Common.{◌≡◌, ℕ, zero, suc, ◌-◌, List, [], ◌∷◌, Bool, Option, Some, None, refl, sym, ap, ◌∙◌, arith}
+use Rattle.std.proofs.Common.{◌≡◌, ℕ, zero, suc, ◌-◌, List, [], ◌∷◌, Bool, Some, None, refl, sym, ap, arith}
 use Rattle.std.proofs.lemmas.Bool.{ne_eqb}
 use Rattle.rst_tree.specs.Statements.{Statement, Statements, Arms, no_arm, labels, otherwise, appended_arms}
 use Rattle.rst_tree.specs.Statements as statements

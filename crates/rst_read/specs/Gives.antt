@@ -1,5 +1,5 @@
 -- What reading returns, and what it has to be.
-use Rattle.std.specs.Prelude.{◌≡◌, List, ◌∷◌, Option, Some, None, Result, Ok, Err}
+use Rattle.std.specs.Prelude.{◌≡◌, List, Option, Some, None, Result, Ok, Err}
 use Rattle.std.specs.Borrow.{Bor}
 use Rattle.rst_tree.specs.Trees.{Tree, Trees, plain, plain_all}
 use Rattle.rst_grammar.specs.declared.symbol.Symbol.{Symbol}

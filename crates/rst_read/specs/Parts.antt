@@ -1,5 +1,5 @@
 -- Parts of the readers of targets and statements that the code has as functions of their own.
-use Rattle.std.specs.Prelude.{ℕ, length, List, [], ◌∷◌, Bool, Option, Some, None, nat_eq, if◌then◌else◌}
+use Rattle.std.specs.Prelude.{ℕ, length, List, ◌∷◌, Bool, Option, Some, None, nat_eq, if◌then◌else◌}
 use Rattle.rst_tree.specs.Targets as targets
 use Rattle.rst_tree.specs.Targets.{Places}
 use Rattle.rst_tree.specs.Statements.{Arms, no_arm, labels, otherwise}
