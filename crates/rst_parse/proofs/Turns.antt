@@ -1,6 +1,6 @@
 -- Reading a list one part after the other, as a loop does.
 use Rattle.std.proofs.Common.{◌≡◌, ℕ, zero, suc, List, [], ◌∷◌, ◌++◌, length, map, Option, Some, None, refl, sym, ap, ◌∙◌, append_assoc}
-use Rattle.std.proofs.lemmas.List.{append-nil}
+use Rattle.std.proofs.lemmas.List.{append-nil, map-append}
 use Rattle.rst_grammar.specs.declared.symbol.Symbol.{Symbol}
 use Rattle.rst_grammar.specs.declared.symbol.Terminal.{Terminal}
 use Rattle.rst_grammar.specs.Reading.{◌>>=◌, cases, after}
@@ -29,6 +29,10 @@ nothing_more front ts read e = rw e (ap (λ xs. Some (xs, ts)) (append-nil front
 nothing_before : {A : Type 0} (read : Found A) → with_front [] read ≡ read
 nothing_before (Some o) = refl
 nothing_before None = refl
+
+-- a longer list in plain form
+pub pushed : {X A : Type 0} (plain : X → A) (xs longer : List X) (x : X) → longer ≡ xs ++ x ∷ [] → map plain longer ≡ map plain xs ++ plain x ∷ []
+pushed plain xs longer x l = ap (map plain) l ∙ map-append plain xs (x ∷ [])
 
 -- the first part
 pub begins : {A : Type 0} (next : SeparatorReader) (one : ReaderOf A) (x : A) (ts rest : List Symbol) → one ts ≡ Some (x, rest)
@@ -138,7 +142,7 @@ nothing ts = Some ([], ts)
 next_mapped : {A B : Type 0} (make : A → B) (found : Option (List Symbol)) (ts : List Symbol) (one : ReaderOf A) (more : List Symbol → Found A) (more_made : List Symbol → Found B)
     → ((us : List Symbol) → more_made us ≡ (more us >>= made (map make)))
     → cases found (nothing ts) (λ rest. (one rest >>= made make) >>= λ x. more_made x.1 >>= before x.0)
-      ≡ (cases found (nothing ts) (λ rest. one rest >>= λ x. more x.1 >>= before x.0) >>= made (map make))
+    ≡ (cases found (nothing ts) (λ rest. one rest >>= λ x. more x.1 >>= before x.0) >>= made (map make))
 unfolding nothing
 next_mapped make None ts one more more_made same = refl
 next_mapped make (Some rest) ts one more more_made same = part_mapped make (one rest) more more_made same

@@ -1,5 +1,5 @@
 -- A whole module.
-use Rattle.std.proofs.Common.{◌≡◌, ℕ, ◌≤◌, List, Some}
+use Rattle.std.proofs.Common.{ℕ, ◌≤◌, List, Some}
 use Rattle.rst_tree.specs.Modules.{PlainModule, height_of_module}
 use Rattle.rst_grammar.specs.declared.symbol.Symbol.{Symbol}
 use Rattle.rst_grammar.specs.Modules.{SpellsModule}

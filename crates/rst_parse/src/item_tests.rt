@@ -15,8 +15,7 @@ fn summary(param: &Param) -> (bool, bool, bool, &[u8]) {
 
 #[test]
 fn parameters_of_a_header(rt: HostRuntime) -> Result<(), Fail> {
-    let text =
-        "module m #(parameter signed [3:0] A = 1, B = 2, parameter C = 3)(a, b); endmodule";
+    let text = "module m #(parameter signed [3:0] A = 1, B = 2, parameter C = 3)(a, b); endmodule";
     let module = module_of(rt.alloc(), text).ok_or("a module")?;
     let rows = [
         (false, true, true, b"A".as_slice()),
@@ -61,7 +60,10 @@ fn event_count(events: &Events) -> usize {
 // The kind of an item, and how many names, assignments, events or copies it has.
 fn kind(item: &Item) -> (&'static str, usize) {
     match item {
-        Item::Port(decl) => (if decl.input { "input" } else { "output" }, decl.names.len()),
+        Item::Port(decl) => (
+            if decl.input { "input" } else { "output" },
+            decl.names.len(),
+        ),
         Item::Net(decl) => (if decl.reg { "reg" } else { "wire" }, decl.names.len()),
         Item::Params(params) => ("parameters", params.len()),
         Item::Assign(assigns) => ("assign", assigns.len()),
@@ -118,9 +120,18 @@ fn event_at(module: &Module, at: usize) -> Option<(EdgeKind, &[u8])> {
 fn events(rt: HostRuntime) -> Result<(), Fail> {
     let text = "module m; always @(posedge a or negedge b, c) ; endmodule";
     let module = module_of(rt.alloc(), text).ok_or("a module")?;
-    assert_eq!(rt; event_at(&module, 0), Some((EdgeKind::Rising, b"a".as_slice())));
-    assert_eq!(rt; event_at(&module, 1), Some((EdgeKind::Falling, b"b".as_slice())));
-    assert_eq!(rt; event_at(&module, 2), Some((EdgeKind::Level, b"c".as_slice())));
+    assert_eq!(rt;
+        event_at(&module, 0),
+        Some((EdgeKind::Rising, b"a".as_slice()))
+    );
+    assert_eq!(rt;
+        event_at(&module, 1),
+        Some((EdgeKind::Falling, b"b".as_slice()))
+    );
+    assert_eq!(rt;
+        event_at(&module, 2),
+        Some((EdgeKind::Level, b"c".as_slice()))
+    );
     assert_eq!(rt; event_at(&module, 3), None);
     Ok(())
 }

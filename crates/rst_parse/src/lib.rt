@@ -18,7 +18,6 @@ pub use laws::one_answer;
 pub use parser::{ParseFault, parse};
 
 #[cfg(test)]
-mod tests;
-
-#[cfg(test)]
 mod item_tests;
+#[cfg(test)]
+mod tests;

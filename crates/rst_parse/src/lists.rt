@@ -7,8 +7,8 @@ ghost use Rattle.rst_grammar.specs.ReadItems.{or_comma};
 ghost use Rattle.rst_read.specs.Gives.{Gives};
 ghost use Rattle.rst_parse.specs.Beside.{beside};
 ghost use Rattle.rst_parse.specs.Separators.{reader_of};
-
 ghost use Rattle.rst_read.specs.declared.stop.Stop.TheVariants.{NoMemory};
+
 use rst_grammar::{Symbol, Terminal};
 use rst_read::{Stop, behind};
 use std::alloc::Global;

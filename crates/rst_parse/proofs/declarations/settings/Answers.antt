@@ -1,4 +1,4 @@
-use Rattle.std.proofs.Common.{◌≡◌, map, subst}
+use Rattle.std.proofs.Common.{map, subst}
 use Rattle.std.specs.Option.{option_map}
 use Rattle.rst_tree.specs.Modules.{plain_range, plain_param}
 use Rattle.rst_grammar.specs.Declarations.{param_of}

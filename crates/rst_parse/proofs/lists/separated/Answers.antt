@@ -1,9 +1,8 @@
-use Rattle.std.proofs.Common.{◌≡◌, ◌+◌, ◌-◌, ◌∷◌, [], map, length, sym, ap, ◌∙◌, arith}
-use Rattle.std.proofs.lemmas.List.{map-append}
+use Rattle.std.proofs.Common.{◌≡◌, ◌+◌, ◌-◌, map, length, sym, ap, ◌∙◌, arith}
 use Rattle.std.proofs.lemmas.Result.{err_from_is_err_and}
 use Rattle.rst_grammar.specs.ReadParts.{separated, more_separated}
 use Rattle.rst_parse.specs.Separators.{reader_of}
-use Rattle.rst_parse.proofs.Turns.{with_front, begins, begins_not, goes_on, stops, is_done, fails}
+use Rattle.rst_parse.proofs.Turns.{with_front, pushed, begins, begins_not, goes_on, stops, is_done, fails}
 use Rattle.rst_parse.proofs.lists.separated.Goals as goal
 
 pub returns-in_err-first : goal.returns-in_err-first
@@ -43,7 +42,7 @@ loop-preserved g c =
     let one = g.R.Reader.reader c.args.reader.now in
     let plain = g.R.Reader.plain in
     let j = n - (c.loop.counter + 1) in
-    let longer = ap (map plain) c.in_ok-push.ensures.items ∙ map-append plain c.loop.parts.items (c.in_ok-next.next ∷ []) in
+    let longer = pushed plain c.loop.parts.items c.push.new.self.items c.in_ok-next.next c.in_ok-push.ensures.items in
     goes_on next one (n - c.loop.counter) j (map plain c.loop.parts.items) (map plain c.push.new.self.items) (plain c.in_ok-next.next) c.loop.rest.now c.in-Some.after.now c.in_ok-next.after.now (separated next one c.args.symbols.now) (omega arith) longer (sym c.in-Some.ensures) c.in_ok-next.ensures c.loop.invariant
 
 pub returns : goal.returns

@@ -1,5 +1,4 @@
-use Rattle.std.proofs.Common.{◌≡◌, ℕ, ◌+◌, ◌-◌, List, [], ◌∷◌, map, length, refl, sym, ap, ◌∙◌, arith}
-use Rattle.std.proofs.lemmas.List.{map-append}
+use Rattle.std.proofs.Common.{◌≡◌, ◌+◌, ◌-◌, List, map, length, refl, sym, ap, ◌∙◌, arith}
 use Rattle.std.proofs.lemmas.Result.{err_from_is_err_and}
 use Rattle.rst_tree.specs.declared.module.Item.{Item}
 use Rattle.rst_tree.specs.Modules.{plain_item}
@@ -8,7 +7,7 @@ use Rattle.rst_grammar.specs.declared.symbol.Terminal.TheVariants as terminal
 use Rattle.rst_grammar.specs.ReadParts.{until}
 use Rattle.rst_grammar.specs.ReadItems.{item_in}
 use Rattle.rst_grammar.specs.ReadModule.{items_in}
-use Rattle.rst_parse.proofs.Turns.{with_front, until_begins, until_goes, until_ends, until_fails, until_out}
+use Rattle.rst_parse.proofs.Turns.{with_front, pushed, until_begins, until_goes, until_ends, until_fails, until_out}
 use Rattle.rst_parse.proofs.module.items.Goals as goal
 
 all_items : (ts : List Symbol) → until terminal.Endmodule (item_in 200) (length ts) ts ≡ items_in 200 ts
@@ -41,7 +40,7 @@ pub loop-preserved : goal.loop-preserved
 loop-preserved c =
     let n = length c.args.symbols.now in
     let j = n - (c.loop.counter + 1) in
-    let longer = ap (λ (xs : List Item). map plain_item xs) c.in_ok-push.ensures.items ∙ map-append plain_item c.loop.items.items (c.in_ok-next.next ∷ []) in
+    let longer = pushed plain_item c.loop.items.items c.push.new.self.items c.in_ok-next.next c.in_ok-push.ensures.items in
     until_goes terminal.Endmodule (item_in 200) (n - c.loop.counter) j (map plain_item c.loop.items.items) (map plain_item c.push.new.self.items) (plain_item c.in_ok-next.next) c.loop.rest.now c.in_ok-next.after.now (items_in 200 c.args.symbols.now) (omega arith) longer (sym c.in_default.ensures) c.in_ok-next.ensures c.loop.invariant
 
 pub returns : goal.returns
