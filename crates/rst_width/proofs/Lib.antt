@@ -7,3 +7,4 @@ pub mod SizingCuts
 pub mod SizingFits
 pub mod Walks
 pub mod Words
+pub mod ReadsSized
