@@ -1,13 +1,13 @@
 -- Cut widths give the same typed expressions and faults as whole ones.
-use Rattle.std.proofs.Common.{◌≡◌, ℕ, min, max, ◌<◌, ◌≤◌, Bool, true, false, cond, Ok, Err, refl, ap, sym, ◌∙◌, arith, nat_lt, Result, ◌⊎◌, inl, inr}
+use Rattle.std.proofs.Common.{◌≡◌, ℕ, min, ◌<◌, ◌≤◌, Bool, true, false, Ok, Err, refl, ap, arith, nat_lt, inl, inr}
 use Rattle.std.proofs.lemmas.Bool.{le-ltb, lt-ltb}
 use Rattle.std.proofs.lemmas.Bool.Decides.{leb_tells}
 use Rattle.rst_width.specs.declared.typed_expr.Shape.{Shape}
 use Rattle.rst_width.specs.declared.typed_expr.WidthFault.{WidthFault}
 use Rattle.rst_width.specs.declared.typed_expr.WidthFault.TheVariants.{TooWide}
-use Rattle.rst_width.specs.Typed.{Typed, Node}
-use Rattle.rst_width.specs.Sized.{Answer, Sized, Found, Leaf, Unary, Binary, Shift, Choose, Earlier, Own, Good, own, larger, in_context, by_itself, brought}
-use Rattle.rst_width.specs.Cut.{cut, cut_shape, cut_width}
+use Rattle.rst_width.specs.Typed.{Node}
+use Rattle.rst_width.specs.Sized.{Sized, Leaf, Unary, Binary, Shift, Choose, Earlier, Own, Good, own, larger, in_context, by_itself, brought}
+use Rattle.rst_width.specs.Cut.{cut, cut_shape}
 
 with_width : (v w : ℕ) (signed : Bool) → v ≡ w → ◌≡◌ {A = Shape} (record { width = v; signed = signed }) (record { width = w; signed = signed })
 with_width v w signed e = ap (λ (x : ℕ). record { width = x; signed = signed }) e
@@ -29,11 +29,11 @@ same_when_narrow shape h = with_width _ _ _ (omega arith)
 brought-cut : (shape : Shape) (node : Node) (context : Shape) → context.width ≤ 64 → brought (cut_shape shape) node context ≡ brought shape node context
 brought-cut shape node context h =
     elim (leb_tells shape.width 64) [
-      inl t ↦ ap (λ (x : Shape). brought x node context) (same_when_narrow shape t.1)
-    | inr t ↦
-        let long : nat_lt shape.width context.width ≡ false = le-ltb shape.width context.width (omega arith) in
-        let cut_long : nat_lt (min shape.width 65) context.width ≡ false = le-ltb (min shape.width 65) context.width (omega arith) in
-        rw (long, cut_long) refl
+      | inl t ↦ ap (λ (x : Shape). brought x node context) (same_when_narrow shape t.1)
+      | inr t ↦
+          let long : nat_lt shape.width context.width ≡ false = le-ltb shape.width context.width (omega arith) in
+          let cut_long : nat_lt (min shape.width 65) context.width ≡ false = le-ltb (min shape.width 65) context.width (omega arith) in
+          rw (long, cut_long) refl
     ]
 
 narrow : (tests : Bool) (s : Sized) (context : Shape) → context.width ≤ 64 → in_context tests (cut s) context ≡ in_context tests s context
@@ -82,8 +82,8 @@ wide_fault-cut (Choose (Err fault) a b) = refl
 pub in_context-cut : (tests : Bool) (s : Sized) (context : Shape) → in_context tests (cut s) (cut_shape context) ≡ in_context tests s context
 in_context-cut tests s context =
     elim (leb_tells context.width 64) [
-      inl t ↦ rw (same_when_narrow context t.1) (narrow tests s context t.1)
-    | inr t ↦ rw (wide tests (cut s) (cut_shape context) (omega arith), wide tests s context t.1) (ap Err (wide_fault-cut s))
+      | inl t ↦ rw (same_when_narrow context t.1) (narrow tests s context t.1)
+      | inr t ↦ rw (wide tests (cut s) (cut_shape context) (omega arith), wide tests s context t.1) (ap Err (wide_fault-cut s))
     ]
 
 pub by_itself-cut : (s : Sized) → by_itself (cut s) ≡ by_itself s

@@ -1,7 +1,6 @@
 -- What is typed fits together.
-use Rattle.std.proofs.Common.{◌≡◌, ◌≢◌, ℕ, zero, suc, ◌+◌, ◌*◌, min, max, ◌<◌, ◌≤◌, Bool, true, false, cond, not, ◌||◌, ◌&&◌, Ok, Err, Some, None, Option, refl, ap, sym, subst, ◌∙◌, arith, nat_lt, nat_eq, Result, ◌⊎◌, inl, inr}
-use Rattle.std.specs.Prelude.{IfOk, ℤ, pos, int_le, unsigned_abs, ◌-ℤ◌}
-use Rattle.std.proofs.lemmas.Bool.{le-ltb, lt-ltb}
+use Rattle.std.proofs.Common.{◌≡◌, ℕ, suc, ◌<◌, ◌≤◌, Bool, true, false, cond, ◌||◌, ◌&&◌, Ok, Err, refl, ap, sym, subst, arith, nat_eq, Result, inl, inr}
+use Rattle.std.specs.Prelude.{IfOk}
 use Rattle.std.proofs.lemmas.Bool.Decides.{leb_tells, eqb_tells}
 use Rattle.rst_word.specs.declared.ops.UnaryOp.{UnaryOp}
 use Rattle.rst_word.specs.declared.ops.UnaryOp.TheVariants as unary
@@ -9,14 +8,14 @@ use Rattle.rst_word.specs.declared.ops.BinaryOp.{BinaryOp}
 use Rattle.rst_word.specs.declared.ops.BinaryOp.TheVariants as binary
 use Rattle.rst_width.specs.declared.typed_expr.Shape.{Shape}
 use Rattle.rst_width.specs.declared.typed_expr.WidthFault.{WidthFault}
-use Rattle.rst_width.specs.declared.typed_expr.WidthFault.TheVariants.{TooWide, NotConstant, ZeroDivisor}
+use Rattle.rst_width.specs.declared.typed_expr.WidthFault.TheVariants.{NotConstant, ZeroDivisor}
 use Rattle.rst_width.specs.Typed.{Typed, Node, typed, shape_of, sized_as, names_signal}
 use Rattle.rst_width.specs.Typed as node
 use Rattle.rst_width.specs.Values.{constant_word}
-use Rattle.rst_width.specs.Sized.{Answer, Sized, Found, Leaf, Unary, Binary, Shift, Choose, Earlier, Own, Good, own, larger, in_context, by_itself, brought, operated, divided, is_division, ◌>>=◌}
+use Rattle.rst_width.specs.Sized.{Answer, Sized, Leaf, Unary, Binary, Shift, Choose, Earlier, Own, Good, own, in_context, by_itself, brought, operated, divided, ◌>>=◌}
 use Rattle.rst_width.specs.Sizing.{kind_of, Kind, Arithmetic, Moving}
-use Rattle.rst_width.specs.Fit.{IsShape, IsFit, IsFitNode, FitsUnary, FitsBinary, FitsDivisor, FitsDivision}
-use Rattle.rst_width.specs.Cut.{cut, cut_shape, WorksInContext, IsFitFound, IsFitSized, IsFitAt, FitsIn}
+use Rattle.rst_width.specs.Fit.{IsShape, IsFit, IsFitNode, FitsBinary, FitsDivisor, FitsDivision}
+use Rattle.rst_width.specs.Cut.{WorksInContext, IsFitSized, IsFitAt, FitsIn}
 
 shape_fits : (w : ℕ) (s : Bool) → 0 < w → w ≤ 64 → IsShape (sized_as w s)
 shape_fits w s h k = record { some_bits = h; at_most_64 = k }
@@ -36,8 +35,8 @@ kept_fits shape n context some same fits small = record {
 brought_fits : (shape : Shape) (n : Node) (context : Shape) → 0 < shape.width → ((signed : Bool) → IsFitNode (sized_as shape.width signed) n) → shape.width ≤ context.width → context.width ≤ 64 → IsFitAt context (brought shape n context)
 brought_fits shape n context some fits wide small =
     elim (leb_tells (suc shape.width) context.width) [
-      inl t ↦ subst (IsFitAt context) (ap (λ b. cond b (typed context (node.Extend (typed shape n))) (typed context n)) (sym t.0)) (extended_fits shape n context some (fits shape.signed) t.1 small)
-    | inr t ↦ subst (IsFitAt context) (ap (λ b. cond b (typed context (node.Extend (typed shape n))) (typed context n)) (sym t.0)) (kept_fits shape n context some (omega arith) fits small)
+      | inl t ↦ subst (IsFitAt context) (ap (λ b. cond b (typed context (node.Extend (typed shape n))) (typed context n)) (sym t.0)) (extended_fits shape n context some (fits shape.signed) t.1 small)
+      | inr t ↦ subst (IsFitAt context) (ap (λ b. cond b (typed context (node.Extend (typed shape n))) (typed context n)) (sym t.0)) (kept_fits shape n context some (omega arith) fits small)
     ]
 
 -- what holds behind a step that may fail
@@ -76,8 +75,8 @@ division_fits op context x y kind as_divisor h k = go (names_signal x || names_s
     go false e =
         let names = or_false (names_signal x) (names_signal y) (sym e) in
         elim (eqb_tells (constant_word y).value 0) [
-          inl t ↦ rw t.0 tt
-        | inr t ↦ rw t.0 (plain_fits op context x y kind (as_divisor (record { dividend = names.0; divisor = names.1; not_zero = omega (arith, t.1) })) h k)
+          | inl t ↦ rw t.0 tt
+          | inr t ↦ rw t.0 (plain_fits op context x y kind (as_divisor (record { dividend = names.0; divisor = names.1; not_zero = omega (arith, t.1) })) h k)
         ]
 
 operated_fits : (op : BinaryOp) (context : Shape) (x y : Typed) → kind_of op ≡ Arithmetic → IsFitAt context x → IsFitAt context y → FitsIn context (operated true context op x y)
@@ -114,28 +113,28 @@ pub in_context-fit : (s : Sized) (context : Shape) → IsFitSized s → (own s).
 in_context-fit (Leaf shape (Earlier fault)) context fits wide = tt
 in_context-fit (Leaf shape (Own fault)) context fits wide =
     elim (leb_tells (suc 64) context.width) [
-      inl t ↦ rw t.0 tt
-    | inr t ↦ rw t.0 tt
+      | inl t ↦ rw t.0 tt
+      | inr t ↦ rw t.0 tt
     ]
 in_context-fit (Leaf shape (Good n)) context fits wide =
     elim (leb_tells (suc 64) context.width) [
-      inl t ↦ rw t.0 tt
-    | inr t ↦ rw t.0 (brought_fits shape n context fits.0 (fits.1 (omega arith)) wide (omega arith))
+      | inl t ↦ rw t.0 tt
+      | inr t ↦ rw t.0 (brought_fits shape n context fits.0 (fits.1 (omega arith)) wide (omega arith))
     ]
 in_context-fit (Unary op a) context fits wide =
     bind (IsFitAt context) (IsFitAt context) (in_context true a context) _ (in_context-fit a context fits.1 wide) (λ x h. unary_fits op context x fits.0 h)
 in_context-fit (Binary op a b) context fits wide =
     bind (IsFitAt context) (IsFitAt context) (in_context true a context) _ (in_context-fit a context fits.1 (omega arith))
-        (λ x h. bind (IsFitAt context) (IsFitAt context) (in_context true b context) _ (in_context-fit b context fits.2 (omega arith))
-            (λ y k. operated_fits op context x y fits.0 h k))
+    (λ x h. bind (IsFitAt context) (IsFitAt context) (in_context true b context) _ (in_context-fit b context fits.2 (omega arith))
+    (λ y k. operated_fits op context x y fits.0 h k))
 in_context-fit (Shift op a amount) context fits wide =
     bind (IsFitAt context) (IsFitAt context) (in_context true a context) _ (in_context-fit a context fits.1 wide)
-        (λ x h. bind IsFit (IsFitAt context) amount _ fits.2 (λ y k. shift_fits op context x y fits.0 h k))
+    (λ x h. bind IsFit (IsFitAt context) amount _ fits.2 (λ y k. shift_fits op context x y fits.0 h k))
 in_context-fit (Choose c a b) context fits wide =
     bind IsFit (IsFitAt context) c _ fits.0
-        (λ x f. bind (IsFitAt context) (IsFitAt context) (in_context true a context) _ (in_context-fit a context fits.1 (omega arith))
-            (λ y h. bind (IsFitAt context) (IsFitAt context) (in_context true b context) _ (in_context-fit b context fits.2 (omega arith))
-                (λ z k. record { fit = (shape_is_fit context y h, (h.at, k.at, f, h.fit, k.fit)); at = refl })))
+    (λ x f. bind (IsFitAt context) (IsFitAt context) (in_context true a context) _ (in_context-fit a context fits.1 (omega arith))
+    (λ y h. bind (IsFitAt context) (IsFitAt context) (in_context true b context) _ (in_context-fit b context fits.2 (omega arith))
+    (λ z k. record { fit = (shape_is_fit context y h, (h.at, k.at, f, h.fit, k.fit)); at = refl })))
 
 -- by itself
 pub by_itself-fit : (s : Sized) → IsFitSized s → FitsIn (own s) (by_itself s)

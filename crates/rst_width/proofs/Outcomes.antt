@@ -1,5 +1,5 @@
 -- What the public calls answer, from what their steps give on cut widths.
-use Rattle.std.proofs.Common.{◌≡◌, ◌∙◌, ℕ, min, max, ◌≤◌, Bool, false, true, Result, Ok, Err, refl, sym, ap, ◌⊎◌, inl, inr, arith}
+use Rattle.std.proofs.Common.{◌≡◌, ◌∙◌, ℕ, min, max, ◌≤◌, Bool, false, true, Result, Ok, Err, sym, ap, inl, inr, arith}
 use Rattle.std.proofs.lemmas.Bool.Decides.{leb_tells}
 use Rattle.rst_width.specs.declared.typed_expr.Shape.{Shape}
 use Rattle.rst_width.specs.declared.typed_expr.TypedExpr.{TypedExpr}
@@ -7,7 +7,7 @@ use Rattle.rst_width.specs.declared.typed_expr.WidthFault.{WidthFault}
 use Rattle.rst_width.specs.declared.typed_expr.WidthFault.TheVariants as fault
 use Rattle.rst_width.specs.Typed.{Typed, plain_typed}
 use Rattle.rst_width.specs.Plain.{plain_answer}
-use Rattle.rst_width.specs.Sized.{Answer, Sized, own, in_context, ◌>>=◌}
+use Rattle.rst_width.specs.Sized.{Answer, Sized, own, in_context}
 use Rattle.rst_width.specs.Answers.{Gives, widened, placed}
 use Rattle.rst_width.specs.Cut.{cut, cut_shape}
 use Rattle.rst_width.proofs.Cuts.{own-cut, in_context-cut, same_when_narrow, wide, wide_fault}

@@ -1,5 +1,5 @@
 -- Typed parts, as lists in memory and in plain form.
-use Rattle.std.proofs.Common.{◌≡◌, ◌≢◌, ℕ, ◌<◌, List, [], ◌∷◌, ◌++◌, length, cond, Ok, Some, refl, ap, arith}
+use Rattle.std.proofs.Common.{◌≡◌, ℕ, ◌<◌, List, [], ◌∷◌, ◌++◌, length, cond, Ok, Some, refl, ap, arith}
 use Rattle.std.specs.Prelude.{ℤ, pos, int_le, unsigned_abs}
 use Rattle.rst_width.specs.declared.typed_expr.TypedExpr.{TypedExpr}
 use Rattle.rst_width.specs.declared.typed_expr.WidthFault.TheVariants.{ZeroWidth}

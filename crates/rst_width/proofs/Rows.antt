@@ -1,14 +1,13 @@
 -- The rows of a typed expression in memory are the lists of its plain form.
-use Rattle.std.proofs.Common.{◌≡◌, ◌∙◌, refl, ap, ℕ, List}
+use Rattle.std.proofs.Common.{◌≡◌, ◌∙◌, refl, ap, ℕ}
 use Rattle.std.specs.declared.vec.Vec.{Vec}
-use Rattle.std.specs.declared.boxed.Box.{Box}
 use Rattle.std.specs.declared.alloc.Global.{Global}
 use mathlib.Core.Former.{Count}
 use Rattle.rst_width.specs.declared.typed_expr.TypedExpr.{TypedExpr}
-use Rattle.rst_width.specs.declared.typed_expr.TypedNode.{TypedNode, Row_of-TypedExpr, end_of-TypedExpr, more_of-TypedExpr, items-the_row-TypedExpr, items_hidden-the_row-TypedExpr-0}
+use Rattle.rst_width.specs.declared.typed_expr.TypedNode.{Row_of-TypedExpr, end_of-TypedExpr, more_of-TypedExpr, items-the_row-TypedExpr, items_hidden-the_row-TypedExpr-0}
 use Rattle.rst_width.specs.declared.typed_expr.TypedNode.TheBlock.{hidden-the_row-TypedExpr-0}
 use Rattle.rst_width.specs.declared.typed_expr.TypedNode.TheVariants as memory
-use Rattle.rst_width.specs.Typed.{plain_row, plain_all, plain_node, plain_typed, more, typed, sized_as, Join, Repeat}
+use Rattle.rst_width.specs.Typed.{plain_row, plain_all, plain_node, more, typed, sized_as, Join, Repeat}
 
 plain_row-items : {n : Count} (k : Row_of-TypedExpr n) → plain_row k ≡ plain_all (items-the_row-TypedExpr n k)
 plain_row-items end_of-TypedExpr = refl

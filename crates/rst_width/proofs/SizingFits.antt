@@ -1,15 +1,12 @@
 -- What is sized fits together.
-use Rattle.std.proofs.Common.{◌≡◌, ◌≢◌, ℕ, zero, suc, ◌+◌, ◌*◌, min, max, ◌<◌, ◌≤◌, Bool, true, false, cond, not, ◌||◌, ◌&&◌, Ok, Err, Some, None, Option, refl, ap, sym, subst, ◌∙◌, arith, nat_lt, nat_eq, Result, ◌⊎◌, inl, inr}
+use Rattle.std.proofs.Common.{◌≡◌, ℕ, suc, ◌+◌, ◌*◌, min, ◌<◌, Bool, true, false, cond, not, ◌||◌, Ok, Err, Some, None, Option, refl, ap, sym, subst, ◌∙◌, arith, nat_lt, Result}
 use Rattle.std.specs.Prelude.{IfOk, ℤ, pos, int_le, unsigned_abs, ◌-ℤ◌}
-use Rattle.std.proofs.lemmas.Bool.Decides.{leb_tells}
 use Rattle.std.proofs.lemmas.Int.{ints}
 use Rattle.std.proofs.Math.Nat.{mul-pos}
 use Rattle.rst_lex.specs.declared.token.Literal.{Literal}
-use Rattle.rst_word.specs.declared.word.Word.{Word}
 use Rattle.rst_word.specs.declared.ops.UnaryOp.{UnaryOp}
 use Rattle.rst_word.specs.declared.ops.UnaryOp.TheVariants as unary
 use Rattle.rst_word.specs.declared.ops.BinaryOp.{BinaryOp}
-use Rattle.rst_word.specs.Words.{IsWord}
 use Rattle.rst_tree.specs.Trees.{Text, Tree, Trees}
 use Rattle.rst_tree.specs.Trees as tree
 use Rattle.rst_width.specs.declared.scope.Entry.{Entry}
@@ -22,12 +19,12 @@ use Rattle.rst_width.specs.Scopes.{Names}
 use Rattle.rst_width.specs.Typed.{Typed, Node, TypedList, typed, shape_of, sized_as, names_signal, end, more}
 use Rattle.rst_width.specs.Typed as node
 use Rattle.rst_width.specs.Values.{constant_number}
-use Rattle.rst_width.specs.Sized.{Answer, Sized, Found, Leaf, Unary, Binary, Shift, Choose, Earlier, Own, Good, own, larger, in_context, by_itself, ◌>>=◌}
-use Rattle.rst_width.specs.Selects.{signal_at, stays_inside, in_range, place_in, bit_of, bit_found, part_of, part_found, part_shape, number_of_part, leaves_range}
-use Rattle.rst_width.specs.Sizing.{Kind, Arithmetic, Moving, Comparing, Deciding, kind_of, one_bit, above, above_both, unary_sized, binary_sized, cast_sized, Parts, join_sized, join_found, repeat_sized, repeat_shape, repeat_found, counted_found, with_part, no_parts, named, sized, sized_parts, part_sized}
-use Rattle.rst_width.specs.Fit.{IsShape, IsFit, IsFitNode, AreFit, FitsBinary, FitsDivisor, widths}
-use Rattle.rst_width.specs.Cut.{cut, cut_shape, IsFitFound, IsFitSized}
-use Rattle.rst_width.proofs.Fits.{IsFitAt, FitsIn, in_context-fit, by_itself-fit, by_itself-is_fit, bind, no_divisor, fit_width}
+use Rattle.rst_width.specs.Sized.{Answer, Sized, Found, Leaf, Unary, Binary, Shift, Choose, Earlier, Own, Good, own, larger, in_context, by_itself}
+use Rattle.rst_width.specs.Selects.{signal_at, stays_inside, in_range, place_in, bit_of, bit_found, part_of, part_shape, number_of_part, leaves_range}
+use Rattle.rst_width.specs.Sizing.{Kind, Arithmetic, Moving, Comparing, Deciding, kind_of, one_bit, above, above_both, unary_sized, binary_sized, cast_sized, Parts, join_sized, join_found, repeat_sized, repeat_shape, repeat_found, counted_found, with_part, named, sized, sized_parts, part_sized}
+use Rattle.rst_width.specs.Fit.{IsFit, IsFitNode, AreFit, FitsBinary, widths}
+use Rattle.rst_width.specs.Cut.{cut, IsFitFound, IsFitSized, IsFitAt}
+use Rattle.rst_width.proofs.Fits.{in_context-fit, by_itself-fit, by_itself-is_fit, bind, no_divisor, fit_width}
 
 -- a choice between two facts
 either : (P : Found → Type 0) (b : Bool) (x y : Found) → P x → P y → P (cond b x y)
@@ -48,11 +45,11 @@ named-fit constant name (Some (entry.Param w)) = (w.some_bits, λ _ _. (record {
 bit_of-fit : (constant : Bool) (i : ℕ) (shape : SignalShape) (index : Typed) → IsFit index → IsFitFound one_bit (bit_of constant i shape index)
 bit_of-fit constant i shape index h =
     either (IsFitFound one_bit) (not shape.ranged) (Own BadSelect) _ tt
-        (either (IsFitFound one_bit) (names_signal index) _ _
-            (either (IsFitFound one_bit) (stays_inside shape (shape_of index)) _ (Own MayLeaveRange)
-                (signal_at-fit one_bit constant (node.Pick i index) (omega arith, λ _ _. (refl, h))) tt)
-            (either (IsFitFound one_bit) (in_range shape (constant_number index)) _ (Own BadSelect)
-                (signal_at-fit one_bit constant _ (omega arith, λ _ _. refl)) tt))
+    (either (IsFitFound one_bit) (names_signal index) _ _
+    (either (IsFitFound one_bit) (stays_inside shape (shape_of index)) _ (Own MayLeaveRange)
+    (signal_at-fit one_bit constant (node.Pick i index) (omega arith, λ _ _. (refl, h))) tt)
+    (either (IsFitFound one_bit) (in_range shape (constant_number index)) _ (Own BadSelect)
+    (signal_at-fit one_bit constant _ (omega arith, λ _ _. refl)) tt))
 
 bit_found-fit : (constant : Bool) (name : Text) (e : Option Entry) (index : Answer) → IfOk index IsFit → IsFitFound one_bit (bit_found constant name e index)
 bit_found-fit constant name e (Err fault) h = tt
@@ -63,7 +60,7 @@ bit_found-fit constant name (Some (entry.Signal i shape)) (Ok index) h = bit_of-
 -- a part-select whose ends have numbers: where it is good, its width is that of its shape
 ends-fit : (constant : Bool) (i place distance : ℕ) (scalar above_range below_range ordered : Bool)
     → IsFitFound (cond ordered (sized_as (suc distance) false) (sized_as 0 true))
-        (cond (scalar || (above_range || (below_range || not ordered))) (Own BadSelect) (signal_at constant (node.Slice i place (suc distance))))
+    (cond (scalar || (above_range || (below_range || not ordered))) (Own BadSelect) (signal_at constant (node.Slice i place (suc distance))))
 ends-fit constant i place distance true above_range below_range ordered = tt
 ends-fit constant i place distance false true below_range ordered = tt
 ends-fit constant i place distance false false true ordered = tt
@@ -114,14 +111,14 @@ binary-fit Moving op a b e h k = (e, h, by_itself-is_fit b k)
 binary-fit Comparing op a b e h k =
     let both = larger (own a) (own b) in
     above_both-fit one_bit (IsFitAt both) (in_context true a both) (in_context true b both) (λ x y. node.Binary op x y)
-        (in_context-fit a both h (omega arith)) (in_context-fit b both k (omega arith)) (λ x y f g. compared-fit op both x y e f g)
+    (in_context-fit a both h (omega arith)) (in_context-fit b both k (omega arith)) (λ x y f g. compared-fit op both x y e f g)
 binary-fit Deciding op a b e h k =
     above_both-fit one_bit IsFit (by_itself a) (by_itself b) (λ x y. node.Binary op x y) (by_itself-is_fit a h) (by_itself-is_fit b k) (λ x y f g. decided-fit op x y e f g)
 
 cast-fit : (signed : Bool) (a : Sized) → IsFitSized a → IsFitSized (cast_sized signed a)
 cast-fit signed a h =
     above-fit (sized_as (own a).width signed) (IsFitAt (own a)) (by_itself a) node.Sign (by_itself-fit a h)
-        (λ x k. (fit_width (own a) x k, λ _ _. (ap (λ (s : Shape). s.width) k.at, k.fit)))
+    (λ x k. (fit_width (own a) x k, λ _ _. (ap (λ (s : Shape). s.width) k.at, k.fit)))
 
 -- parts of this width together
 pub record AreFitAt (width : ℕ) (xs : TypedList) : Type 0 where
@@ -134,10 +131,10 @@ FitParts parts = IfOk parts.list (AreFitAt parts.width)
 with_part-fit : (first : Sized) (others : Parts) → IsFitSized first → FitParts others → FitParts (with_part first others)
 with_part-fit first others h k =
     bind (IsFitAt (own first)) (AreFitAt ((own first).width + others.width)) (by_itself first) _ (by_itself-fit first h)
-        (λ x f. bind (AreFitAt others.width) (AreFitAt ((own first).width + others.width)) others.list _ k
-            (λ xs g. record { sum = omega (arith, ap (λ (s : Shape). s.width) f.at, g.sum); fit = (f.fit, g.fit) }))
+    (λ x f. bind (AreFitAt others.width) (AreFitAt ((own first).width + others.width)) others.list _ k
+    (λ xs g. record { sum = omega (arith, ap (λ (s : Shape). s.width) f.at, g.sum); fit = (f.fit, g.fit) }))
 
-some_width : (x : Typed) (xs : TypedList) → AreFit (more x xs) → 0 < widths (more x xs)
+pub some_width : (x : Typed) (xs : TypedList) → AreFit (more x xs) → 0 < widths (more x xs)
 some_width (typed shape n) xs h = omega (arith, h.0.0.some_bits)
 
 join-fit : (parts : Parts) → FitParts parts → IsFitSized (join_sized parts)
@@ -154,13 +151,13 @@ at_least_one count h = grind (arith, ints)
 -- a repetition whose count has a number
 counted-fit : (count : ℤ) (width : ℕ) (x : Typed) (xs : TypedList) → AreFitAt width (more x xs) → (some : Bool) → some ≡ int_le (pos 1) count
     → IsFitFound (cond some (sized_as (unsigned_abs count * width) false) (sized_as 0 true))
-        (cond some (cond (nat_lt 64 (unsigned_abs count * width)) (Own TooWide) (Good (node.Repeat (unsigned_abs count) (more x xs)))) (Own ZeroWidth))
+    (cond some (cond (nat_lt 64 (unsigned_abs count * width)) (Own TooWide) (Good (node.Repeat (unsigned_abs count) (more x xs)))) (Own ZeroWidth))
 counted-fit count width x xs h false e = tt
 counted-fit count width x xs h true e =
     let positive = at_least_one count (sym e) in
     let some : 0 < width = omega (arith, h.sum, some_width x xs h.fit) in
     either (IsFitFound (sized_as (unsigned_abs count * width) false)) _ (Own TooWide) (Good (node.Repeat (unsigned_abs count) (more x xs))) tt
-        (mul-pos positive some, λ _ _. (positive, ap (λ w. unsigned_abs count * w) h.sum, h.fit))
+    (mul-pos positive some, λ _ _. (positive, ap (λ w. unsigned_abs count * w) h.sum, h.fit))
 
 repeat_found-fit : (number : Option ℤ) (width : ℕ) (parts : TypedList) → AreFitAt width parts → IsFitFound (repeat_shape number width) (repeat_found number width parts)
 repeat_found-fit None width parts h = tt

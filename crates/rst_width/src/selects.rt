@@ -7,10 +7,10 @@ ghost use Rattle.rst_width.specs.Selects.{signal_at, in_range, place_in, stays_i
 ghost use Rattle.rst_width.specs.Cut.{cut_shape};
 ghost use Rattle.rst_width.specs.Fit.{IsFit};
 
-use crate::values::{constant_word, names_signal};
 use crate::scope::{Entry, SignalShape};
 use crate::sized::{Answer, Found};
 use crate::typed_expr::{Shape, TypedExpr, TypedNode, WidthFault};
+use crate::values::{constant_word, names_signal};
 use rst_outside::{Name, NoMemory};
 use std::alloc::{AllocError, Global};
 
@@ -117,9 +117,7 @@ pub fn bit_found(
     match entry {
         None => Ok(Found::Earlier(WidthFault::NoName(Name::new(alloc, name.as_slice())?))),
         Some(Entry::Param(_)) => Ok(Found::Own(WidthFault::BadSelect)),
-        Some(Entry::Signal(signal, shape)) => {
-            Ok(bit_of(alloc, constant, signal, shape, index)?)
-        }
+        Some(Entry::Signal(signal, shape)) => { Ok(bit_of(alloc, constant, signal, shape, index)?) }
     }
 }
 

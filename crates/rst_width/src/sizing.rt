@@ -172,12 +172,8 @@ fn binary_sized(
             let amount = by_itself(alloc, right)?;
             Ok(SizedExpr::Shift(op, Box::new(alloc, left)?, amount))
         }
-        BinaryOp::Lt
-        | BinaryOp::Le
-        | BinaryOp::Gt
-        | BinaryOp::Ge
-        | BinaryOp::Eq
-        | BinaryOp::Ne => compared(alloc, op, left, right),
+        BinaryOp::Lt | BinaryOp::Le | BinaryOp::Gt | BinaryOp::Ge | BinaryOp::Eq | BinaryOp::Ne =>
+            compared(alloc, op, left, right),
         BinaryOp::LogicAnd | BinaryOp::LogicOr => {
             let left = by_itself(alloc, left)?;
             above_both(alloc, op, left, by_itself(alloc, right)?)

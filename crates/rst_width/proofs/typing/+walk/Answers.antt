@@ -1,11 +1,9 @@
-use Rattle.std.proofs.Common.{◌≡◌, ◌≤◌, ◌∙◌, ap, subst, Bool, Result, arith}
-use Rattle.std.specs.Prelude.{IsTrue}
+use Rattle.std.proofs.Common.{◌≡◌, ◌∙◌, ap, Bool, Result, arith}
 use Rattle.rst_width.specs.declared.sized.SizedExpr.{SizedExpr}
 use Rattle.rst_width.specs.declared.typed_expr.TypedExpr.{TypedExpr}
 use Rattle.rst_width.specs.declared.typed_expr.WidthFault.{WidthFault}
 use Rattle.rst_width.specs.Plain.{plain_sized, plain_answer, plain_found}
-use Rattle.rst_width.specs.Sized.{Leaf, own, in_context}
-use Rattle.rst_width.specs.Cut.{IsFitSized}
+use Rattle.rst_width.specs.Sized.{Leaf, in_context}
 use Rattle.rst_width.proofs.Walks.{answer_fits, for_one}
 use Rattle.rst_width.proofs.typing.+walk.Goals as goal
 

@@ -1,4 +1,4 @@
-use Rattle.std.proofs.Common.{◌≡◌, ◌∙◌, sym, ap, List}
+use Rattle.std.proofs.Common.{◌∙◌, sym, ap, List}
 use Rattle.rst_width.specs.declared.typed_expr.TypedExpr.{TypedExpr}
 use Rattle.rst_width.specs.declared.typed_expr.TypedNode.{TypedNode}
 use Rattle.rst_width.specs.Typed.{plain_node, plain_all, node_names, list_names}

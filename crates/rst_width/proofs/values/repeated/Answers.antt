@@ -1,4 +1,4 @@
-use Rattle.std.proofs.Common.{◌≡◌, ◌∙◌, refl, sym, ap, ◌+◌, ◌-◌, ◌*◌, arith, add-one}
+use Rattle.std.proofs.Common.{◌≡◌, ◌∙◌, sym, ap, ◌+◌, ◌-◌, ◌*◌, arith, add-one}
 use Rattle.std.proofs.Math.Nat.{suc-mul}
 use Rattle.rst_word.specs.Words.{PlainWord}
 use Rattle.rst_word.specs.Plain.{plain_word}

@@ -1,4 +1,4 @@
-use Rattle.std.proofs.Common.{◌≡◌, ◌-◌, ◌*◌, ◌≤◌}
+use Rattle.std.proofs.Common.{◌≡◌, ◌-◌, ◌*◌}
 use Rattle.rst_word.specs.Plain.{plain_word}
 use Rattle.rst_width.specs.Values.{repeated}
 use Rattle.rst_width.proofs.values.repeated.Given as goal
