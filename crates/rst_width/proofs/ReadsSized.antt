@@ -14,8 +14,10 @@ use Rattle.rst_width.specs.declared.scope.SignalShape.{SignalShape}
 use Rattle.rst_width.specs.declared.typed_expr.Shape.{Shape}
 use Rattle.rst_width.specs.declared.typed_expr.WidthFault.{WidthFault}
 use Rattle.rst_width.specs.declared.typed_expr.WidthFault.TheVariants.{TooWide, ZeroWidth, BadSelect, MayLeaveRange, NotConstant, ZeroDivisor}
+use Rattle.rst_width.specs.declared.typed_expr.TypedExpr.{TypedExpr}
 use Rattle.rst_width.specs.Scopes.{Names}
-use Rattle.rst_width.specs.Typed.{Typed, Node, TypedList, typed, shape_of, sized_as, names_signal, end, more}
+use Rattle.rst_width.specs.Plain.{plain_answer}
+use Rattle.rst_width.specs.Typed.{Typed, Node, TypedList, plain_typed, typed, shape_of, sized_as, names_signal, end, more}
 use Rattle.rst_width.specs.Typed as node
 use Rattle.rst_width.specs.Values.{constant_number, constant_word}
 use Rattle.rst_width.specs.Sized.{Answer, Sized, Found, Leaf, Unary, Binary, Shift, Choose, Earlier, Own, Good, own, larger, in_context, by_itself, brought, operated, divided, is_division, ◌>>=◌}
@@ -44,8 +46,8 @@ module _ (widths : ℕ → ℕ) where
   brought-reads : (shape : Shape) (n : Node) (context : Shape) → shape.width ≤ context.width → ((signed : Bool) → NodeReadsInside widths (sized_as shape.width signed) n) → ReadsInside widths (brought shape n context)
   brought-reads shape n context wide reads =
       elim (leb_tells (suc shape.width) context.width) [
-        inl t ↦ rw t.0 (reads shape.signed)
-      | inr t ↦ rw t.0 (kept shape n context (omega arith) reads)
+        | inl t ↦ rw t.0 (reads shape.signed)
+        | inr t ↦ rw t.0 (kept shape n context (omega arith) reads)
       ]
 
   operated-reads : (tests : Bool) (context : Shape) (op : BinaryOp) (x y : Typed) → ReadsInside widths x → ReadsInside widths y → IfOk (operated tests context op x y) (ReadsInside widths)
@@ -61,28 +63,28 @@ module _ (widths : ℕ → ℕ) where
   in_context-reads tests (Leaf shape (Earlier fault)) context reads wide = tt
   in_context-reads tests (Leaf shape (Own fault)) context reads wide =
       elim (leb_tells (suc 64) context.width) [
-        inl t ↦ rw t.0 tt
-      | inr t ↦ rw t.0 tt
+        | inl t ↦ rw t.0 tt
+        | inr t ↦ rw t.0 tt
       ]
   in_context-reads tests (Leaf shape (Good n)) context reads wide =
       elim (leb_tells (suc 64) context.width) [
-        inl t ↦ rw t.0 tt
-      | inr t ↦ rw t.0 (brought-reads shape n context wide reads)
+        | inl t ↦ rw t.0 tt
+        | inr t ↦ rw t.0 (brought-reads shape n context wide reads)
       ]
   in_context-reads tests (Unary op a) context reads wide =
       bind (ReadsInside widths) (ReadsInside widths) (in_context tests a context) _ (in_context-reads tests a context reads wide) (λ x h. h)
   in_context-reads tests (Binary op a b) context reads wide =
       bind (ReadsInside widths) (ReadsInside widths) (in_context tests a context) _ (in_context-reads tests a context reads.0 (omega arith))
-          (λ x h. bind (ReadsInside widths) (ReadsInside widths) (in_context tests b context) _ (in_context-reads tests b context reads.1 (omega arith))
-              (λ y k. operated-reads tests context op x y h k))
+      (λ x h. bind (ReadsInside widths) (ReadsInside widths) (in_context tests b context) _ (in_context-reads tests b context reads.1 (omega arith))
+      (λ y k. operated-reads tests context op x y h k))
   in_context-reads tests (Shift op a amount) context reads wide =
       bind (ReadsInside widths) (ReadsInside widths) (in_context tests a context) _ (in_context-reads tests a context reads.0 wide)
-          (λ x h. bind (ReadsInside widths) (ReadsInside widths) amount _ reads.1 (λ y k. (h, k)))
+      (λ x h. bind (ReadsInside widths) (ReadsInside widths) amount _ reads.1 (λ y k. (h, k)))
   in_context-reads tests (Choose c a b) context reads wide =
       bind (ReadsInside widths) (ReadsInside widths) c _ reads.0
-          (λ x f. bind (ReadsInside widths) (ReadsInside widths) (in_context tests a context) _ (in_context-reads tests a context reads.1 (omega arith))
-              (λ y h. bind (ReadsInside widths) (ReadsInside widths) (in_context tests b context) _ (in_context-reads tests b context reads.2 (omega arith))
-                  (λ z k. (f, h, k))))
+      (λ x f. bind (ReadsInside widths) (ReadsInside widths) (in_context tests a context) _ (in_context-reads tests a context reads.1 (omega arith))
+      (λ y h. bind (ReadsInside widths) (ReadsInside widths) (in_context tests b context) _ (in_context-reads tests b context reads.2 (omega arith))
+      (λ z k. (f, h, k))))
 
   pub by_itself-reads : (s : Sized) → SizedReads s → IfOk (by_itself s) (ReadsInside widths)
   by_itself-reads s reads = in_context-reads true s (own s) reads (omega arith)
@@ -101,6 +103,7 @@ module _ (widths : ℕ → ℕ) where
       last : (b : Bool) → not b ≡ true → b ≡ false
       last false e = refl
       last true e = cc
+
       go : (s z : Bool) → (not s && (z && not (nat_lt shape.width (2 ^ index.width)))) ≡ true → 2 ^ index.width ≤ shape.width
       go true z e = cc
       go false false e = cc
@@ -129,11 +132,11 @@ module _ (widths : ℕ → ℕ) where
   bit_of-reads : (constant : Bool) (i : ℕ) (shape : SignalShape) (index : Typed) → widths i ≡ shape.width → ReadsInside widths index → FoundReads one_bit (bit_of constant i shape index)
   bit_of-reads constant i shape index same reads =
       when (FoundReads one_bit) (not shape.ranged) (Own BadSelect) _ (λ _. tt)
-          (λ _. when (FoundReads one_bit) (names_signal index) _ _
-              (λ _. when (FoundReads one_bit) (stays_inside shape (shape_of index)) (signal_at constant (node.Pick i index)) (Own MayLeaveRange)
-                  (λ t. signal_at-reads one_bit constant (node.Pick i index) (λ _. (omega (arith, variable_fits shape (shape_of index) t, same), reads))) (λ _. tt))
-              (λ _. when (FoundReads one_bit) (in_range shape (constant_number index)) (signal_at constant (node.Slice i (place_in shape (constant_number index)) 1)) (Own BadSelect)
-                  (λ t. signal_at-reads one_bit constant (node.Slice i (place_in shape (constant_number index)) 1) (λ _. omega (arith, place_fits shape (constant_number index) t, same))) (λ _. tt)))
+      (λ _. when (FoundReads one_bit) (names_signal index) _ _
+      (λ _. when (FoundReads one_bit) (stays_inside shape (shape_of index)) (signal_at constant (node.Pick i index)) (Own MayLeaveRange)
+      (λ t. signal_at-reads one_bit constant (node.Pick i index) (λ _. (omega (arith, variable_fits shape (shape_of index) t, same), reads))) (λ _. tt))
+      (λ _. when (FoundReads one_bit) (in_range shape (constant_number index)) (signal_at constant (node.Slice i (place_in shape (constant_number index)) 1)) (Own BadSelect)
+      (λ t. signal_at-reads one_bit constant (node.Slice i (place_in shape (constant_number index)) 1) (λ _. omega (arith, place_fits shape (constant_number index) t, same))) (λ _. tt)))
 
   part_of-reads : (constant : Bool) (i : ℕ) (shape : SignalShape) (whole : Shape) (high low : Option ℤ) → widths i ≡ shape.width → FoundReads whole (part_of constant i shape high low)
   part_of-reads constant i shape whole (Some high) (Some low) same = go (not shape.ranged) (in_range shape high) (in_range shape low) (int_le low high) refl refl refl
@@ -185,7 +188,7 @@ module _ (widths : ℕ → ℕ) where
   repeat_found-reads whole (Some count) width end h = tt
   repeat_found-reads whole (Some count) width (more x xs) h =
       when (FoundReads whole) (int_le (pos 1) count) _ (Own ZeroWidth)
-          (λ _. when (FoundReads whole) _ (Own TooWide) (Good (node.Repeat (unsigned_abs count) (more x xs))) (λ _. tt) (λ _ _. h)) (λ _. tt)
+      (λ _. when (FoundReads whole) _ (Own TooWide) (Good (node.Repeat (unsigned_abs count) (more x xs))) (λ _. tt) (λ _ _. h)) (λ _. tt)
 
   counted-reads : (whole : Shape) (count : Answer) (width : ℕ) (list : Result TypedList WidthFault) → IfOk list (AllReadInside widths) → FoundReads whole (counted_found count width list)
   counted-reads whole (Err fault) width list h = tt
@@ -231,8 +234,13 @@ module _ (widths : ℕ → ℕ) (names : Names) (right : HaveWidths widths names
     sized_parts-reads constant tree.end = tt
     sized_parts-reads constant (tree.more x xs) =
         bind (ReadsInside widths) (AllReadInside widths) (by_itself (sized constant names x)) _ (by_itself-reads widths (sized constant names x) (sized-reads constant x))
-            (λ y h. bind (AllReadInside widths) (AllReadInside widths) (sized_parts constant names xs).list _ (sized_parts-reads constant xs) (λ ys k. (h, k)))
+        (λ y h. bind (AllReadInside widths) (AllReadInside widths) (sized_parts constant names xs).list _ (sized_parts-reads constant xs) (λ ys k. (h, k)))
 
   -- what is typed of an expression in a context that is at least as wide
   pub typed-reads : (tests constant : Bool) (e : Tree) (context : Shape) → (own (sized constant names e)).width ≤ context.width → IfOk (in_context tests (sized constant names e) context) (ReadsInside widths)
   typed-reads tests constant e context wide = in_context-reads widths tests (sized constant names e) context (sized-reads constant e) wide
+
+-- an answer of the code, by its plain form
+pub answer-reads : (widths : ℕ → ℕ) (r : Result TypedExpr WidthFault) (a : Answer) → plain_answer r ≡ a → IfOk a (ReadsInside widths) → IfOk r (λ e. ReadsInside widths (plain_typed e))
+answer-reads widths (Ok e) a is reads = subst (λ (x : Answer). IfOk x (ReadsInside widths)) (sym is) reads
+answer-reads widths (Err fault) a is reads = tt
