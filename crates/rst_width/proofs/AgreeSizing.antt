@@ -1,5 +1,5 @@
 -- Sizing with every signal NotConstant agrees with sizing where signals may stand.
-use Rattle.std.proofs.Common.{◌≡◌, ◌∙◌, ℕ, ◌+◌, ◌*◌, Bool, true, false, ◌||◌, not, cond, Result, Ok, Err, Option, Some, None, refl, sym, ap, subst, nat_lt, suc, max}
+use Rattle.std.proofs.Common.{◌≡◌, ◌∙◌, ℕ, ◌+◌, ◌*◌, true, false, ◌||◌, not, cond, Result, Ok, Err, Option, Some, None, refl, sym, ap, subst, nat_lt, suc, max}
 use Rattle.std.specs.Prelude.{ℤ, pos, int_le, unsigned_abs, ◌-ℤ◌}
 use Rattle.rst_word.specs.declared.ops.UnaryOp.{UnaryOp}
 use Rattle.rst_word.specs.declared.ops.UnaryOp.TheVariants as unary
@@ -17,11 +17,11 @@ use Rattle.rst_width.specs.Scopes.{Names}
 use Rattle.rst_width.specs.Typed.{Typed, Node, TypedList, end, more, typed, names_signal, node_names, list_names, shape_of, sized_as}
 use Rattle.rst_width.specs.Typed as node
 use Rattle.rst_width.specs.Values.{constant_number, constant_word}
-use Rattle.rst_width.specs.Sized.{Answer, Sized, Found, Leaf, Earlier, Own, Good, own, larger, in_context, by_itself, ◌>>=◌}
+use Rattle.rst_width.specs.Sized.{Answer, Sized, Found, Earlier, Own, Good, own, larger, in_context, by_itself, ◌>>=◌}
 use Rattle.rst_width.specs.Selects.{signal_at, in_range, place_in, stays_inside, bit_of, bit_found, number_of_part, part_shape, leaves_range, part_of, part_found}
-use Rattle.rst_width.specs.Sizing.{Kind, Arithmetic, Moving, Comparing, Deciding, kind_of, above, above_both, named, unary_sized, binary_sized, decided, one_bit, Parts, no_parts, with_part, join_found, join_sized, repeat_shape, repeat_found, counted_found, repeat_sized, cast_sized, part_sized, sized, sized_parts}
+use Rattle.rst_width.specs.Sizing.{Kind, Arithmetic, Moving, Comparing, Deciding, kind_of, above, above_both, named, unary_sized, binary_sized, decided, one_bit, Parts, with_part, join_found, repeat_shape, repeat_found, counted_found, repeat_sized, sized, sized_parts}
 use Rattle.rst_width.specs.Answers.{typed_answer, constant_answer, widened}
-use Rattle.rst_width.proofs.Agree.{Named, Agree, on, both_false, left_true, right_true, named_bind, bind_agree, NamedFound, IsFault, AgreeFound, fault_agrees, AgreeSized, leaf, unary, binary, shift, choose, own_agree, in_context_agree, by_itself_agree}
+use Rattle.rst_width.proofs.Agree.{Agree, on, both_false, left_true, right_true, named_bind, bind_agree, NamedFound, IsFault, AgreeFound, fault_agrees, AgreeSized, leaf, unary, binary, shift, choose, own_agree, in_context_agree, by_itself_agree}
 
 -- what stands at a select names a signal, and is a fault where every signal is NotConstant
 bit_of_named : (i : ℕ) (shape : SignalShape) (e : Typed) → NamedFound (bit_of false i shape e)
