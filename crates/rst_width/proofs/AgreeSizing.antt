@@ -20,7 +20,8 @@ use Rattle.rst_width.specs.Values.{constant_number, constant_word}
 use Rattle.rst_width.specs.Sized.{Answer, Sized, Found, Earlier, Own, Good, own, larger, in_context, by_itself, ◌>>=◌}
 use Rattle.rst_width.specs.Selects.{signal_at, in_range, place_in, stays_inside, bit_of, bit_found, number_of_part, part_shape, leaves_range, part_of, part_found}
 use Rattle.rst_width.specs.Sizing.{Kind, Arithmetic, Moving, Comparing, Deciding, kind_of, above, above_both, named, unary_sized, binary_sized, decided, one_bit, Parts, with_part, join_found, repeat_shape, repeat_found, counted_found, repeat_sized, sized, sized_parts}
-use Rattle.rst_width.specs.Answers.{typed_answer, constant_answer, widened}
+use Rattle.rst_width.specs.Answers.{HasValue, typed_answer, constant_answer, widened}
+use Rattle.rst_width.proofs.OneValue.{same_value}
 use Rattle.rst_width.proofs.Agree.{Agree, on, both_false, left_true, right_true, named_bind, bind_agree, NamedFound, IsFault, AgreeFound, fault_agrees, AgreeSized, leaf, unary, binary, shift, choose, own_agree, in_context_agree, by_itself_agree}
 
 -- what stands at a select names a signal, and is a fault where every signal is NotConstant
@@ -260,3 +261,8 @@ constant_only names e width w h = word_only _ _ w (answers_agree names e width) 
 pub constant_all : (names : Names) (e : Tree) (width : ℕ) (t : Typed) → typed_answer names e width ≡ Ok t → names_signal t ≡ false
     → constant_answer names e width ≡ Ok (constant_word t)
 constant_all names e width t h f = word_all _ _ t (answers_agree names e width) h f
+
+-- the word of a constant expression is the value of its typed form, whatever the signals are
+pub constant_value : (names : Names) (e : Tree) (width : ℕ) (w : PlainWord) → constant_answer names e width ≡ Ok w → HasValue names e width w
+constant_value names e width w h =
+    let found = constant_only names e width w h in (found.0, found.1, λ signals. same_value signals (λ _. 0) found.0 found.2 ∙ found.3)
