@@ -1,10 +1,13 @@
+pub mod Agree
+pub mod AgreeSizing
 pub mod Cuts
 pub mod Fits
+pub mod OneValue
 pub mod Outcomes
 pub mod PartLists
+pub mod ReadsSized
 pub mod Rows
 pub mod SizingCuts
 pub mod SizingFits
 pub mod Walks
 pub mod Words
-pub mod ReadsSized

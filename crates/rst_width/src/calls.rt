@@ -7,7 +7,7 @@ ghost use Rattle.rst_width.specs.Typed.{plain_typed};
 ghost use Rattle.rst_width.specs.Fit.{IsFit, IsShape};
 ghost use Rattle.rst_width.specs.Reads.{HaveWidths, ReadsInside};
 ghost use Rattle.rst_width.specs.Scopes.{names_of};
-ghost use Rattle.rst_width.specs.Answers.{Gives, same_shape, shape_answer, typed_answer, placed_answer, constant_answer};
+ghost use Rattle.rst_width.specs.Answers.{Gives, HasValue, same_shape, shape_answer, typed_answer, placed_answer, constant_answer};
 
 use crate::scope::Scope;
 use crate::sizing::sized;
@@ -94,7 +94,9 @@ pub fn typed_in(
 /// The faults are those of `typed`, and each place that names a signal is `NotConstant`.
 pub fn constant(alloc: Global, expr: &Expr, scope: &Scope, context: u8) -> Result<Word, WidthFault>
     requires { context ≤ 64 }
-    ensures { Gives plain_word result (constant_answer (names_of scope.now) (plain expr.now) context) }
+    ensures exact { Gives plain_word result (constant_answer (names_of scope.now) (plain expr.now) context) }
+    // The word is the value of what `typed` answers, whatever the signals are.
+    ensures value { IfOk result (λ w. HasValue (names_of scope.now) (plain expr.now) context (plain_word w)) }
 {
     let sized = sized(alloc, true, expr, scope)?;
     let context = widened(own(&sized), context);

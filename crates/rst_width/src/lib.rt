@@ -6,6 +6,7 @@
 #![tactic(auto)]
 
 mod calls;
+pub mod laws;
 mod parts;
 mod scope;
 mod selects;
