@@ -1,5 +1,5 @@
 -- Sized expressions read inside their signals, and so does what is typed of them.
-use Rattle.std.proofs.Common.{◌≡◌, ℕ, zero, suc, ◌+◌, ◌-◌, ◌^◌, ◌<◌, ◌≤◌, Bool, true, false, cond, not, ◌||◌, ◌&&◌, Ok, Err, Some, None, Option, refl, ap, sym, subst, ◌∙◌, arith, nat_lt, nat_eq, Result, ◌⊎◌, inl, inr}
+use Rattle.std.proofs.Common.{◌≡◌, ℕ, suc, ◌+◌, ◌-◌, ◌^◌, ◌<◌, ◌≤◌, Bool, true, false, cond, not, ◌||◌, ◌&&◌, Ok, Err, Some, None, Option, refl, sym, subst, arith, nat_lt, nat_eq, Result, inl, inr}
 use Rattle.std.specs.Prelude.{IfOk, ℤ, pos, int_le, unsigned_abs, ◌-ℤ◌}
 use Rattle.std.proofs.lemmas.Bool.Decides.{leb_tells, nat_tests}
 use Rattle.std.proofs.lemmas.Int.{ints}
@@ -20,9 +20,9 @@ use Rattle.rst_width.specs.Plain.{plain_answer}
 use Rattle.rst_width.specs.Typed.{Typed, Node, TypedList, plain_typed, typed, shape_of, sized_as, names_signal, end, more}
 use Rattle.rst_width.specs.Typed as node
 use Rattle.rst_width.specs.Values.{constant_number, constant_word}
-use Rattle.rst_width.specs.Sized.{Answer, Sized, Found, Leaf, Unary, Binary, Shift, Choose, Earlier, Own, Good, own, larger, in_context, by_itself, brought, operated, divided, is_division, ◌>>=◌}
-use Rattle.rst_width.specs.Selects.{signal_at, stays_inside, in_range, place_in, bit_of, bit_found, part_of, part_found, number_of_part, leaves_range}
-use Rattle.rst_width.specs.Sizing.{Kind, Arithmetic, Moving, Comparing, Deciding, kind_of, one_bit, above, above_both, unary_sized, binary_sized, decided, cast_sized, Parts, join_sized, join_found, repeat_sized, repeat_found, counted_found, times, with_part, named, sized, sized_parts, part_sized}
+use Rattle.rst_width.specs.Sized.{Answer, Sized, Found, Leaf, Unary, Binary, Shift, Choose, Earlier, Own, Good, own, larger, in_context, by_itself, brought, operated, is_division}
+use Rattle.rst_width.specs.Selects.{signal_at, stays_inside, in_range, place_in, bit_of, bit_found, part_of, part_found, number_of_part}
+use Rattle.rst_width.specs.Sizing.{Kind, Arithmetic, Moving, Comparing, Deciding, kind_of, one_bit, above, unary_sized, binary_sized, decided, Parts, join_found, repeat_found, counted_found, named, sized, sized_parts}
 use Rattle.rst_width.specs.Reads.{HaveWidths, ReadsInside, NodeReadsInside, AllReadInside}
 use Rattle.rst_width.proofs.Fits.{bind}
 

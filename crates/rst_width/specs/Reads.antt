@@ -1,5 +1,5 @@
 -- What a typed expression reads lies inside its signals.
-use Rattle.std.specs.Prelude.{◌≡◌, ℕ, ◌+◌, ◌^◌, ◌≤◌, Some, IfOk}
+use Rattle.std.specs.Prelude.{◌≡◌, ℕ, ◌+◌, ◌^◌, ◌≤◌, Some}
 use Rattle.rst_tree.specs.Trees.{Text}
 use Rattle.rst_width.specs.declared.scope.SignalShape.{SignalShape}
 use Rattle.rst_width.specs.declared.scope.Entry.TheVariants as entry
