@@ -147,3 +147,31 @@ only_fits context (Err f) h = tt
 
 pub by_itself-is_fit : (s : Sized) → IsFitSized s → IfOk (by_itself s) IsFit
 by_itself-is_fit s fits = only_fits (own s) (by_itself s) (by_itself-fit s fits)
+
+-- a fact that does not speak of the answer
+whatever : (P : Type 0) (r : Answer) → P → IfOk r (λ _. P)
+whatever P (Ok x) h = h
+whatever P (Err e) h = tt
+
+-- A context in which an expression has a typed form has 1 to 64 bits.
+pub in_context-bits : (tests : Bool) (s : Sized) (context : Shape) → IsFitSized s → (own s).width ≤ context.width → IfOk (in_context tests s context) (λ _. IsShape context)
+in_context-bits tests (Leaf shape (Earlier fault)) context fits wide = tt
+in_context-bits tests (Leaf shape (Own fault)) context fits wide =
+    elim (leb_tells (suc 64) context.width) [
+      | inl t ↦ rw t.0 tt
+      | inr t ↦ rw t.0 tt
+    ]
+in_context-bits tests (Leaf shape (Good n)) context fits wide =
+    elim (leb_tells (suc 64) context.width) [
+      | inl t ↦ rw t.0 tt
+      | inr t ↦ rw t.0 (record { some_bits = omega (arith, fits.0); at_most_64 = omega arith })
+    ]
+in_context-bits tests (Unary op a) context fits wide =
+    bind (λ _. IsShape context) (λ _. IsShape context) (in_context tests a context) _ (in_context-bits tests a context fits.1 wide) (λ x h. h)
+in_context-bits tests (Binary op a b) context fits wide =
+    bind (λ _. IsShape context) (λ _. IsShape context) (in_context tests a context) _ (in_context-bits tests a context fits.1 (omega arith)) (λ x h. whatever (IsShape context) _ h)
+in_context-bits tests (Shift op a amount) context fits wide =
+    bind (λ _. IsShape context) (λ _. IsShape context) (in_context tests a context) _ (in_context-bits tests a context fits.1 wide) (λ x h. whatever (IsShape context) _ h)
+in_context-bits tests (Choose c a b) context fits wide =
+    bind (λ _. Unit {0}) (λ _. IsShape context) c _ (whatever (Unit {0}) c tt)
+    (λ x _. bind (λ _. IsShape context) (λ _. IsShape context) (in_context tests a context) _ (in_context-bits tests a context fits.1 (omega arith)) (λ y h. whatever (IsShape context) _ h))

@@ -1,7 +1,11 @@
+pub mod Agree
+pub mod AgreeSizing
 pub mod Cuts
 pub mod Fits
+pub mod OneValue
 pub mod Outcomes
 pub mod PartLists
+pub mod ReadsSized
 pub mod Rows
 pub mod SizingCuts
 pub mod SizingFits

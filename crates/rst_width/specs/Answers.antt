@@ -8,7 +8,8 @@ use Rattle.rst_width.specs.declared.typed_expr.WidthFault.TheVariants as fault
 use Rattle.rst_width.specs.Scopes.{Names}
 use Rattle.rst_width.specs.Sized.{Answer, Sized, own, in_context, ◌>>=◌}
 use Rattle.rst_width.specs.Sizing.{sized}
-use Rattle.rst_width.specs.Values.{constant_word}
+use Rattle.rst_width.specs.Typed.{Typed}
+use Rattle.rst_width.specs.Values.{Valuation, value, constant_word}
 
 -- The context of an expression that works at the larger of its own width and this one, with its own sign.
 abbrev pub widened : Sized → ℕ → Shape
@@ -45,3 +46,7 @@ Gives view (Err e) answer = answer ≡ Err e
 -- a width and sign, as they stand
 abbrev pub same_shape : Shape → Shape
 same_shape shape = shape
+
+-- The word is the value of the typed expression in a context of this width, whatever the signals are.
+abbrev pub HasValue : Names → Tree → ℕ → PlainWord → Type 0
+HasValue names e width w = (t : Typed) × (typed_answer names e width ≡ Ok t) × ((signals : Valuation) → value signals t ≡ w)

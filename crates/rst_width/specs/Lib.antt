@@ -10,3 +10,4 @@ pub mod Fit
 pub mod Cut
 pub mod Fronts
 pub mod Steps
+pub mod Reads

@@ -1,12 +1,13 @@
 // The calls.
 
-ghost use Rattle.std.specs.Prelude.{◌≡◌, ◌≤◌, max, IfOk};
+ghost use Rattle.std.specs.Prelude.{◌≡◌, ◌≤◌, ℕ, max, IfOk};
 ghost use Rattle.rst_word.specs.Plain.{plain_word};
 ghost use Rattle.rst_tree.specs.Trees.{plain};
 ghost use Rattle.rst_width.specs.Typed.{plain_typed};
-ghost use Rattle.rst_width.specs.Fit.{IsFit};
+ghost use Rattle.rst_width.specs.Fit.{IsFit, IsShape};
+ghost use Rattle.rst_width.specs.Reads.{HaveWidths, ReadsInside};
 ghost use Rattle.rst_width.specs.Scopes.{names_of};
-ghost use Rattle.rst_width.specs.Answers.{Gives, same_shape, shape_answer, typed_answer, placed_answer, constant_answer};
+ghost use Rattle.rst_width.specs.Answers.{Gives, HasValue, same_shape, shape_answer, typed_answer, placed_answer, constant_answer};
 
 use crate::scope::Scope;
 use crate::sizing::sized;
@@ -32,7 +33,8 @@ fn widened(own: Shape, width: u8) -> Shape
 /// The faults are those of the expression by itself, but for a `ZeroDivisor` where a wider context could change the divisor.
 /// `NoMemory` comes where memory runs out.
 pub fn size_and_sign(alloc: Global, expr: &Expr, scope: &Scope) -> Result<Shape, WidthFault>
-    ensures { Gives same_shape result (shape_answer (names_of scope.now) (plain expr.now)) }
+    ensures exact { Gives same_shape result (shape_answer (names_of scope.now) (plain expr.now)) }
+    ensures bits { IfOk result IsShape }
 {
     let sized = sized(alloc, false, expr, scope)?;
     let shape = own(&sized);
@@ -56,6 +58,7 @@ pub fn typed(
     requires { context ≤ 64 }
     ensures exact { Gives plain_typed result (typed_answer (names_of scope.now) (plain expr.now) context) }
     ensures fit { IfOk result (λ e. IsFit (plain_typed e)) }
+    ensures inside { (widths : ℕ → ℕ) → HaveWidths widths (names_of scope.now) → IfOk result (λ e. ReadsInside widths (plain_typed e)) }
 {
     let sized = sized(alloc, false, expr, scope)?;
     let context = widened(own(&sized), context);
@@ -75,6 +78,7 @@ pub fn typed_in(
     requires { context.width ≤ 64 }
     ensures exact { Gives plain_typed result (placed_answer (names_of scope.now) (plain expr.now) context) }
     ensures fit { IfOk result (λ e. IsFit (plain_typed e)) }
+    ensures inside { (widths : ℕ → ℕ) → HaveWidths widths (names_of scope.now) → IfOk result (λ e. ReadsInside widths (plain_typed e)) }
 {
     let sized = sized(alloc, false, expr, scope)?;
     let context = Shape {
@@ -90,7 +94,9 @@ pub fn typed_in(
 /// The faults are those of `typed`, and each place that names a signal is `NotConstant`.
 pub fn constant(alloc: Global, expr: &Expr, scope: &Scope, context: u8) -> Result<Word, WidthFault>
     requires { context ≤ 64 }
-    ensures { Gives plain_word result (constant_answer (names_of scope.now) (plain expr.now) context) }
+    ensures exact { Gives plain_word result (constant_answer (names_of scope.now) (plain expr.now) context) }
+    // The word is the value of what `typed` answers, whatever the signals are.
+    ensures value { IfOk result (λ w. HasValue (names_of scope.now) (plain expr.now) context (plain_word w)) }
 {
     let sized = sized(alloc, true, expr, scope)?;
     let context = widened(own(&sized), context);

@@ -6,6 +6,7 @@
 #![tactic(auto)]
 
 mod calls;
+pub mod laws;
 mod parts;
 mod scope;
 mod selects;
@@ -18,6 +19,7 @@ mod values;
 pub use calls::{constant, size_and_sign, typed, typed_in};
 pub use scope::{Entry, Scope, SignalShape};
 pub use typed_expr::{Shape, TypedExpr, TypedNode, WidthFault};
+pub use values::{constant_word, names_signal};
 
 #[cfg(test)]
 mod tests;

@@ -10,7 +10,7 @@ ghost use Rattle.rst_width.specs.Fit.{IsShape, IsFit, IsFitNode, AreFit, widths}
 use crate::typed_expr::{TypedExpr, TypedNode};
 use rst_word::Word;
 
-// Whether an expression names a signal; one that names none is constant.
+/// Whether a typed expression names a signal. One that names none is constant.
 #[cycle(names)]
 #[tactic(auto, using(crate::proofs::Rows::rows))]
 pub fn names_signal(expr: &TypedExpr) -> bool
@@ -42,7 +42,10 @@ fn list_names(parts: &[TypedExpr]) -> bool
     false
 }
 
-// The word of a constant expression. A signal in it counts as 0.
+/// The word of a typed expression that names no signal, by the operators in two values. In another one each signal counts as 0.
+///
+/// The widths inside have to fit together, as they do in every answer of [`typed`](crate::typed) and
+/// [`typed_in`](crate::typed_in).
 #[cycle(words)]
 pub fn constant_word(expr: &TypedExpr) -> Word
     requires { IsFit (plain_typed expr.now) }
