@@ -3,8 +3,8 @@
 ghost use Rattle.std.specs.Prelude.{◌<◌, ◌≤◌, ◌^◌};
 
 use crate::{
-    Entry, Scope, Shape, SignalShape, TypedExpr, TypedNode, WidthFault, constant, size_and_sign,
-    typed, typed_in,
+    Entry, Scope, Shape, SignalShape, TypedExpr, TypedNode, WidthFault, constant, constant_word,
+    names_signal, size_and_sign, typed, typed_in,
 };
 use indexmap::IndexMap;
 use rst_lex::Literal;
@@ -52,171 +52,245 @@ fn choose(alloc: Global, test: Expr, a: Expr, b: Expr) -> Result<Expr, Fail> {
     Ok(Expr::Choose(test, a, Box::new(alloc, b)?))
 }
 
-fn signed(alloc: Global, a: Expr) -> Result<Expr, Fail> {
-    Ok(Expr::Signed(Box::new(alloc, a)?))
-}
-
-fn unsigned(alloc: Global, a: Expr) -> Result<Expr, Fail> {
-    Ok(Expr::Unsigned(Box::new(alloc, a)?))
-}
-
-fn pair(alloc: Global, a: Expr, b: Expr) -> Result<Vec<Expr>, Fail> {
+fn pair(alloc: Global, a: Expr, b: Expr) -> Result<Expr, Fail> {
     let mut parts = Vec::new(alloc);
     parts.push(a)?;
     parts.push(b)?;
-    Ok(parts)
+    Ok(Expr::Join(parts))
 }
 
 // `{count{a}}`
-fn repeat(alloc: Global, count: Expr, a: Expr) -> Result<Expr, Fail> {
+fn repeat(alloc: Global, count: u32, a: Expr) -> Result<Expr, Fail> {
     let mut parts = Vec::new(alloc);
     parts.push(a)?;
-    Ok(Expr::Repeat(Box::new(alloc, count)?, parts))
+    Ok(Expr::Repeat(Box::new(alloc, decimal(count))?, parts))
 }
 
 // `vector[index]`
 fn bit(alloc: Global, vector: &[u8], index: Expr) -> Result<Expr, Fail> {
-    Ok(Expr::Bit(Name::new(alloc, vector)?, Box::new(alloc, index)?))
+    let vector = Name::new(alloc, vector)?;
+    Ok(Expr::Bit(vector, Box::new(alloc, index)?))
 }
 
 // `vector[high:low]`
 fn part(alloc: Global, vector: &[u8], high: u32, low: u32) -> Result<Expr, Fail> {
+    let vector = Name::new(alloc, vector)?;
     let high = Box::new(alloc, decimal(high))?;
-    Ok(Expr::Part(
-        Name::new(alloc, vector)?,
-        high,
-        Box::new(alloc, decimal(low))?,
-    ))
+    Ok(Expr::Part(vector, high, Box::new(alloc, decimal(low))?))
 }
 
-// `reg [3:0] a` is signal 0, `reg signed [9:2] b` signal 1, `reg [1:0] i` signal 2 and `reg c` signal 3; the parameter `P` is -1.
-fn scope(alloc: Global) -> Result<Scope, Fail> {
-    let vector = |width, low, signed| SignalShape {
+fn with(alloc: Global, scope: Scope, text: &[u8], entry: Entry) -> Result<Scope, Fail> {
+    let mut entries = scope.entries;
+    let name = Name::new(alloc, text)?;
+    entries.insert(name, entry)?;
+    Ok(Scope { entries })
+}
+
+// A vector that is declared with this width from this bit on.
+fn vector(width: u8, low: u32, signed: bool) -> SignalShape
+    requires some_bits { 0 < width }
+    requires at_most_64 { width ≤ 64 }
+    requires low { low ≤ 9 }
+{
+    SignalShape {
         width,
         low,
         signed,
         ranged: true,
-    };
+    }
+}
+
+// `reg [3:0] a` is signal 0, `reg signed [9:2] b` signal 1, `reg [1:0] i` signal 2 and `reg c` signal 3; the parameter `P` is -1.
+fn scope(alloc: Global) -> Result<Scope, Fail> {
     let scalar = SignalShape {
         width: 1,
         low: 0,
         signed: false,
         ranged: false,
     };
-    let mut entries = IndexMap::new(alloc);
-    entries.insert(
-        Name::new(alloc, b"a")?,
-        Entry::Signal(0, vector(4, 0, false)),
-    )?;
-    entries.insert(
-        Name::new(alloc, b"b")?,
-        Entry::Signal(1, vector(8, 2, true)),
-    )?;
-    entries.insert(
-        Name::new(alloc, b"i")?,
-        Entry::Signal(2, vector(2, 0, false)),
-    )?;
-    entries.insert(Name::new(alloc, b"c")?, Entry::Signal(3, scalar))?;
-    entries.insert(
-        Name::new(alloc, b"P")?,
-        Entry::Param(Word::new(8, true, 255)),
-    )?;
-    Ok(Scope { entries })
+    let scope = Scope {
+        entries: IndexMap::new(alloc),
+    };
+    let scope = with(alloc, scope, b"a", Entry::Signal(0, vector(4, 0, false)))?;
+    let scope = with(alloc, scope, b"b", Entry::Signal(1, vector(8, 2, true)))?;
+    let scope = with(alloc, scope, b"i", Entry::Signal(2, vector(2, 0, false)))?;
+    let scope = with(alloc, scope, b"c", Entry::Signal(3, scalar))?;
+    with(alloc, scope, b"P", Entry::Param(Word::new(8, true, 255)))
 }
 
 // The word of a constant expression.
-fn word(alloc: Global, expr: &Expr, context: u8) -> Result<Word, Fail>
+fn word(alloc: Global, expr: Expr, context: u8) -> Result<Word, Fail>
     requires { context ≤ 64 }
 {
-    let word = constant(alloc, expr, &scope(alloc)?, context)
-        .ok()
-        .ok_or("no word")?;
-    Ok(word)
+    let scope = scope(alloc)?;
+    let word = constant(alloc, &expr, &scope, context).ok();
+    Ok(word.ok_or("no word")?)
+}
+
+// The word of `a op b`.
+fn row(alloc: Global, op: BinaryOp, a: Expr, b: Expr, context: u8) -> Result<Word, Fail>
+    requires { context ≤ 64 }
+{
+    let expr = binary(alloc, op, a, b)?;
+    word(alloc, expr, context)
+}
+
+fn text(fault: WidthFault) -> &'static str {
+    match fault {
+        WidthFault::NoName(_) => "NoName",
+        WidthFault::TooWide => "TooWide",
+        WidthFault::ZeroWidth => "ZeroWidth",
+        WidthFault::BadSelect => "BadSelect",
+        WidthFault::MayLeaveRange => "MayLeaveRange",
+        WidthFault::NotConstant => "NotConstant",
+        WidthFault::ZeroDivisor => "ZeroDivisor",
+        WidthFault::NoMemory => "NoMemory",
+    }
+}
+
+// The fault of an expression by itself.
+fn fault(alloc: Global, expr: Expr) -> Result<&'static str, Fail> {
+    let scope = scope(alloc)?;
+    match typed(alloc, &expr, &scope, 0) {
+        Ok(_) => Ok("none"),
+        Err(fault) => Ok(text(fault)),
+    }
+}
+
+// The fault of an expression that has to be constant.
+fn constant_fault(alloc: Global, expr: Expr) -> Result<&'static str, Fail> {
+    let scope = scope(alloc)?;
+    match constant(alloc, &expr, &scope, 0) {
+        Ok(_) => Ok("none"),
+        Err(fault) => Ok(text(fault)),
+    }
+}
+
+// The typed form by itself.
+fn typed_alone(alloc: Global, expr: Expr) -> Result<TypedExpr, Fail> {
+    let scope = scope(alloc)?;
+    let typed = typed(alloc, &expr, &scope, 0).ok();
+    Ok(typed.ok_or("no typed form")?)
+}
+
+// The typed form in a context that is unsigned.
+fn typed_unsigned(alloc: Global, expr: Expr, width: u8) -> Result<TypedExpr, Fail>
+    requires { width ≤ 64 }
+{
+    let scope = scope(alloc)?;
+    let context = Shape {
+        width,
+        signed: false,
+    };
+    let typed = typed_in(alloc, &expr, &scope, context).ok();
+    Ok(typed.ok_or("no typed form")?)
+}
+
+fn shape(alloc: Global, expr: Expr) -> Result<Shape, Fail> {
+    let scope = scope(alloc)?;
+    let shape = size_and_sign(alloc, &expr, &scope).ok();
+    Ok(shape.ok_or("no shape")?)
+}
+
+// -7
+fn minus_seven(alloc: Global) -> Result<Expr, Fail> {
+    unary(alloc, UnaryOp::Minus, decimal(7))
+}
+
+// 7 / (1 - 1)
+fn division_by_zero(alloc: Global) -> Result<Expr, Fail> {
+    let zero = binary(alloc, BinaryOp::Sub, decimal(1), decimal(1))?;
+    binary(alloc, BinaryOp::Div, decimal(7), zero)
 }
 
 #[test]
 fn a_sum_works_at_the_width_of_its_context(rt: HostRuntime) -> Result<(), Fail> {
     let alloc = rt.alloc();
+    let four = row(
+        alloc,
+        BinaryOp::Add,
+        literal(4, false, 15),
+        literal(4, false, 15),
+        0,
+    )?;
+    assert_eq!(rt; four, Word::new(4, false, 14));
+    let five = row(
+        alloc,
+        BinaryOp::Add,
+        literal(4, false, 15),
+        literal(4, false, 15),
+        5,
+    )?;
+    assert_eq!(rt; five, Word::new(5, false, 30));
+    Ok(())
+}
+
+#[test]
+fn a_comparison_keeps_the_carry(rt: HostRuntime) -> Result<(), Fail> {
+    let alloc = rt.alloc();
     let sum = binary(
         alloc,
         BinaryOp::Add,
         literal(4, false, 15),
-        literal(4, false, 15),
+        literal(4, false, 1),
     )?;
-    assert_eq!(rt; word(alloc, &sum, 0)?, Word::new(4, false, 14));
-    assert_eq!(rt; word(alloc, &sum, 5)?, Word::new(5, false, 30));
-    let shape = size_and_sign(alloc, &sum, &scope(alloc)?)
-        .ok()
-        .ok_or("no shape")?;
-    assert_eq!(rt;
-        shape,
-        Shape {
-            width: 4,
-            signed: false
-        }
-    );
-    // (15 + 1) == 5'd16: the comparison keeps the carry; (15 + 1) == 4'd0 does not.
-    let carry = binary(
+    let wide = row(alloc, BinaryOp::Eq, sum, literal(5, false, 16), 0)?;
+    assert_eq!(rt; wide, Word::new(1, false, 1));
+    let sum = binary(
         alloc,
         BinaryOp::Add,
         literal(4, false, 15),
         literal(4, false, 1),
     )?;
-    let wide = binary(alloc, BinaryOp::Eq, carry, literal(5, false, 16))?;
-    assert_eq!(rt; word(alloc, &wide, 0)?, Word::new(1, false, 1));
-    let carry = binary(
-        alloc,
-        BinaryOp::Add,
-        literal(4, false, 15),
-        literal(4, false, 1),
-    )?;
-    let narrow = binary(alloc, BinaryOp::Eq, carry, literal(4, false, 0))?;
-    assert_eq!(rt; word(alloc, &narrow, 0)?, Word::new(1, false, 1));
+    let narrow = row(alloc, BinaryOp::Eq, sum, literal(4, false, 0), 0)?;
+    assert_eq!(rt; narrow, Word::new(1, false, 1));
     Ok(())
 }
 
 #[test]
 fn quotients_and_remainders(rt: HostRuntime) -> Result<(), Fail> {
     let alloc = rt.alloc();
-    let minus_seven = unary(alloc, UnaryOp::Minus, decimal(7))?;
-    let quotient = binary(alloc, BinaryOp::Div, minus_seven, decimal(2))?;
-    assert_eq!(rt;
-        word(alloc, &quotient, 0)?,
-        Word::new(32, true, 4_294_967_293)
-    );
-    let minus_seven = unary(alloc, UnaryOp::Minus, decimal(7))?;
-    let remainder = binary(alloc, BinaryOp::Rem, minus_seven, decimal(2))?;
-    assert_eq!(rt;
-        word(alloc, &remainder, 0)?,
-        Word::new(32, true, 4_294_967_295)
-    );
+    let quotient = row(alloc, BinaryOp::Div, minus_seven(alloc)?, decimal(2), 0)?;
+    assert_eq!(rt; quotient, Word::new(32, true, 4_294_967_293));
+    let remainder = row(alloc, BinaryOp::Rem, minus_seven(alloc)?, decimal(2), 0)?;
+    assert_eq!(rt; remainder, Word::new(32, true, 4_294_967_295));
     // One unsigned operand makes both unsigned: 4,294,967,289 / 2.
-    let minus_seven = unary(alloc, UnaryOp::Minus, decimal(7))?;
-    let unsigned = binary(alloc, BinaryOp::Div, minus_seven, literal(32, false, 2))?;
-    assert_eq!(rt;
-        word(alloc, &unsigned, 0)?,
-        Word::new(32, false, 2_147_483_644)
-    );
+    let unsigned = row(
+        alloc,
+        BinaryOp::Div,
+        minus_seven(alloc)?,
+        literal(32, false, 2),
+        0,
+    )?;
+    assert_eq!(rt; unsigned, Word::new(32, false, 2_147_483_644));
     Ok(())
 }
 
 #[test]
-fn shifts_fill_by_the_sign_of_their_context(rt: HostRuntime) -> Result<(), Fail> {
+fn shifts_fill_by_the_sign(rt: HostRuntime) -> Result<(), Fail> {
     let alloc = rt.alloc();
-    let signed_shift = binary(
+    let signed = row(
         alloc,
         BinaryOp::ArithShr,
         literal(8, true, 0x80),
         decimal(1),
+        0,
     )?;
-    assert_eq!(rt; word(alloc, &signed_shift, 0)?, Word::new(8, true, 192));
-    let unsigned_shift = binary(
+    assert_eq!(rt; signed, Word::new(8, true, 192));
+    let unsigned = row(
         alloc,
         BinaryOp::ArithShr,
         literal(8, false, 0x80),
         decimal(1),
+        0,
     )?;
-    assert_eq!(rt; word(alloc, &unsigned_shift, 0)?, Word::new(8, false, 64));
+    assert_eq!(rt; unsigned, Word::new(8, false, 64));
+    Ok(())
+}
+
+#[test]
+fn shifts_take_the_sign_of_their_context(rt: HostRuntime) -> Result<(), Fail> {
+    let alloc = rt.alloc();
     // Beside an unsigned operand, `8'sh80 >>> 1` is 64.
     let shift = binary(
         alloc,
@@ -224,120 +298,111 @@ fn shifts_fill_by_the_sign_of_their_context(rt: HostRuntime) -> Result<(), Fail>
         literal(8, true, 0x80),
         decimal(1),
     )?;
-    let sum = binary(alloc, BinaryOp::Add, shift, literal(8, false, 0))?;
-    assert_eq!(rt; word(alloc, &sum, 0)?, Word::new(8, false, 64));
+    let sum = row(alloc, BinaryOp::Add, shift, literal(8, false, 0), 0)?;
+    assert_eq!(rt; sum, Word::new(8, false, 64));
     // `$signed(4'b1000) >>> 1` at 8 bits is extended first: 1111_1000, then 1111_1100.
-    let cast = signed(alloc, literal(4, false, 8))?;
-    let shift = binary(alloc, BinaryOp::ArithShr, cast, decimal(1))?;
-    assert_eq!(rt; word(alloc, &shift, 8)?, Word::new(8, true, 252));
+    let cast = Expr::Signed(Box::new(alloc, literal(4, false, 8))?);
+    let wide = row(alloc, BinaryOp::ArithShr, cast, decimal(1), 8)?;
+    assert_eq!(rt; wide, Word::new(8, true, 252));
     Ok(())
 }
 
 #[test]
-fn signs_mix(rt: HostRuntime) -> Result<(), Fail> {
+fn signs_of_sums_mix(rt: HostRuntime) -> Result<(), Fail> {
     let alloc = rt.alloc();
     // -8 + 1 = -7 at 8 bits; with an unsigned 1 the operand is 8.
-    let sum = binary(
+    let signed = row(
         alloc,
         BinaryOp::Add,
         literal(4, true, 8),
         literal(8, true, 1),
+        0,
     )?;
-    assert_eq!(rt; word(alloc, &sum, 0)?, Word::new(8, true, 249));
-    let sum = binary(
+    assert_eq!(rt; signed, Word::new(8, true, 249));
+    let unsigned = row(
         alloc,
         BinaryOp::Add,
         literal(4, true, 8),
         literal(8, false, 1),
+        0,
     )?;
-    assert_eq!(rt; word(alloc, &sum, 0)?, Word::new(8, false, 9));
+    assert_eq!(rt; unsigned, Word::new(8, false, 9));
+    Ok(())
+}
+
+#[test]
+fn signs_of_comparisons_mix(rt: HostRuntime) -> Result<(), Fail> {
+    let alloc = rt.alloc();
     // -8 < 0, but 8 is not below an unsigned 0.
-    let less = binary(
+    let signed = row(
         alloc,
         BinaryOp::Lt,
         literal(4, true, 8),
         literal(8, true, 0),
+        0,
     )?;
-    assert_eq!(rt; word(alloc, &less, 0)?, Word::new(1, false, 1));
-    let less = binary(
+    assert_eq!(rt; signed, Word::new(1, false, 1));
+    let unsigned = row(
         alloc,
         BinaryOp::Lt,
         literal(4, true, 8),
         literal(8, false, 0),
+        0,
     )?;
-    assert_eq!(rt; word(alloc, &less, 0)?, Word::new(1, false, 0));
-    let cast = unsigned(alloc, literal(4, true, 8))?;
-    let less = binary(alloc, BinaryOp::Lt, cast, literal(8, true, 0))?;
-    assert_eq!(rt; word(alloc, &less, 0)?, Word::new(1, false, 0));
-    // `P` is -1: `1 ? P : 4'sd1` is -1 at 8 bits, and 255 beside an unsigned branch at 9.
-    let choice = choose(
-        alloc,
-        literal(1, false, 1),
-        name(alloc, b"P")?,
-        literal(4, true, 1),
-    )?;
-    assert_eq!(rt; word(alloc, &choice, 0)?, Word::new(8, true, 255));
-    let choice = choose(
-        alloc,
-        literal(1, false, 1),
-        name(alloc, b"P")?,
-        literal(9, false, 1),
-    )?;
-    assert_eq!(rt; word(alloc, &choice, 0)?, Word::new(9, false, 255));
+    assert_eq!(rt; unsigned, Word::new(1, false, 0));
+    let cast = Expr::Unsigned(Box::new(alloc, literal(4, true, 8))?);
+    let cast = row(alloc, BinaryOp::Lt, cast, literal(8, true, 0), 0)?;
+    assert_eq!(rt; cast, Word::new(1, false, 0));
     Ok(())
 }
 
 #[test]
-fn joins_and_repetitions(rt: HostRuntime) -> Result<(), Fail> {
+fn branches_are_sized_together(rt: HostRuntime) -> Result<(), Fail> {
     let alloc = rt.alloc();
-    let join = Expr::Join(pair(alloc, literal(4, true, 10), literal(4, false, 5))?);
-    assert_eq!(rt; word(alloc, &join, 0)?, Word::new(8, false, 165));
-    let repetition = repeat(alloc, decimal(3), literal(2, false, 2))?;
-    assert_eq!(rt; word(alloc, &repetition, 0)?, Word::new(6, false, 42));
-    // A reduction and `~` in a context of 8 bits.
+    // `P` is -1: `1 ? P : 4'sd1` is -1 at 8 bits, and 255 beside an unsigned branch of 9.
+    let choice = choose(alloc, decimal(1), name(alloc, b"P")?, literal(4, true, 1))?;
+    assert_eq!(rt; word(alloc, choice, 0)?, Word::new(8, true, 255));
+    let choice = choose(alloc, decimal(1), name(alloc, b"P")?, literal(9, false, 1))?;
+    assert_eq!(rt; word(alloc, choice, 0)?, Word::new(9, false, 255));
+    Ok(())
+}
+
+#[test]
+fn joins_repetitions_and_inversions(rt: HostRuntime) -> Result<(), Fail> {
+    let alloc = rt.alloc();
+    let join = pair(alloc, literal(4, true, 10), literal(4, false, 5))?;
+    assert_eq!(rt; word(alloc, join, 0)?, Word::new(8, false, 165));
+    let repetition = repeat(alloc, 3, literal(2, false, 2))?;
+    assert_eq!(rt; word(alloc, repetition, 0)?, Word::new(6, false, 42));
     let all = unary(alloc, UnaryOp::And, literal(4, false, 15))?;
-    assert_eq!(rt; word(alloc, &all, 8)?, Word::new(8, false, 1));
+    assert_eq!(rt; word(alloc, all, 8)?, Word::new(8, false, 1));
     let inverted = unary(alloc, UnaryOp::Invert, literal(4, false, 0))?;
-    assert_eq!(rt; word(alloc, &inverted, 8)?, Word::new(8, false, 255));
+    assert_eq!(rt; word(alloc, inverted, 8)?, Word::new(8, false, 255));
     Ok(())
 }
 
 #[test]
-fn faults(rt: HostRuntime) -> Result<(), Fail> {
+fn a_divisor_of_zero_has_a_width(rt: HostRuntime) -> Result<(), Fail> {
     let alloc = rt.alloc();
-    let scope = scope(alloc)?;
-    // 7 / (1 - 1): a wider context could change the divisor, so that the width and sign stand.
-    let zero = binary(alloc, BinaryOp::Sub, decimal(1), decimal(1))?;
-    let quotient = binary(alloc, BinaryOp::Div, decimal(7), zero)?;
-    assert!(rt;
-        matches!(
-            constant(alloc, &quotient, &scope, 0),
-            Err(WidthFault::ZeroDivisor)
-        )
-    );
-    assert!(rt;
-        matches!(
-            typed(alloc, &quotient, &scope, 0),
-            Err(WidthFault::ZeroDivisor)
-        )
-    );
-    let shape = size_and_sign(alloc, &quotient, &scope)
-        .ok()
-        .ok_or("no shape")?;
     assert_eq!(rt;
-        shape,
-        Shape {
-            width: 32,
-            signed: true
-        }
+        constant_fault(alloc, division_by_zero(alloc)?)?,
+        "ZeroDivisor"
     );
-    let none = repeat(alloc, decimal(0), literal(1, false, 1))?;
-    assert!(rt;
-        matches!(
-            constant(alloc, &none, &scope, 0),
-            Err(WidthFault::ZeroWidth)
-        )
+    assert_eq!(rt; fault(alloc, division_by_zero(alloc)?)?, "ZeroDivisor");
+    let shape = shape(alloc, division_by_zero(alloc)?)?;
+    assert_eq!(rt; shape.width, 32);
+    assert!(rt; shape.signed);
+    Ok(())
+}
+
+#[test]
+fn faults_of_widths(rt: HostRuntime) -> Result<(), Fail> {
+    let alloc = rt.alloc();
+    assert_eq!(rt;
+        constant_fault(alloc, repeat(alloc, 0, literal(1, false, 1))?)?,
+        "ZeroWidth"
     );
+    assert_eq!(rt; constant_fault(alloc, name(alloc, b"a")?)?, "NotConstant");
     // (a < 3) + {70{c}}: the comparison is brought to 70 bits.
     let less = binary(
         alloc,
@@ -349,53 +414,26 @@ fn faults(rt: HostRuntime) -> Result<(), Fail> {
         alloc,
         BinaryOp::Add,
         less,
-        repeat(alloc, decimal(70), name(alloc, b"c")?)?,
+        repeat(alloc, 70, name(alloc, b"c")?)?,
     )?;
-    assert!(rt; matches!(typed(alloc, &wide, &scope, 0), Err(WidthFault::TooWide)));
-    assert!(rt;
-        matches!(
-            constant(alloc, &name(alloc, b"a")?, &scope, 0),
-            Err(WidthFault::NotConstant)
-        )
-    );
+    assert_eq!(rt; fault(alloc, wide)?, "TooWide");
     Ok(())
 }
 
 #[test]
 fn faulty_selects(rt: HostRuntime) -> Result<(), Fail> {
     let alloc = rt.alloc();
-    let scope = scope(alloc)?;
-    let out = bit(alloc, b"a", decimal(4))?;
-    assert!(rt; matches!(typed(alloc, &out, &scope, 0), Err(WidthFault::BadSelect)));
-    let scalar = bit(alloc, b"c", decimal(0))?;
-    assert!(rt; matches!(typed(alloc, &scalar, &scope, 0), Err(WidthFault::BadSelect)));
-    let parameter = part(alloc, b"P", 1, 0)?;
-    assert!(rt;
-        matches!(
-            typed(alloc, &parameter, &scope, 0),
-            Err(WidthFault::BadSelect)
-        )
+    assert_eq!(rt; fault(alloc, bit(alloc, b"a", decimal(4))?)?, "BadSelect");
+    assert_eq!(rt; fault(alloc, bit(alloc, b"c", decimal(0))?)?, "BadSelect");
+    assert_eq!(rt; fault(alloc, part(alloc, b"P", 1, 0)?)?, "BadSelect");
+    assert_eq!(rt; fault(alloc, part(alloc, b"a", 0, 1)?)?, "BadSelect");
+    assert_eq!(rt;
+        fault(alloc, bit(alloc, b"b", name(alloc, b"i")?)?)?,
+        "MayLeaveRange"
     );
-    let ascending = part(alloc, b"a", 0, 1)?;
-    assert!(rt;
-        matches!(
-            typed(alloc, &ascending, &scope, 0),
-            Err(WidthFault::BadSelect)
-        )
-    );
-    let leaves = bit(alloc, b"b", name(alloc, b"i")?)?;
-    assert!(rt;
-        matches!(
-            typed(alloc, &leaves, &scope, 0),
-            Err(WidthFault::MayLeaveRange)
-        )
-    );
-    let unknown = bit(alloc, b"x", name(alloc, b"i")?)?;
-    assert!(rt;
-        matches!(
-            typed(alloc, &unknown, &scope, 0),
-            Err(WidthFault::NoName(_))
-        )
+    assert_eq!(rt;
+        fault(alloc, bit(alloc, b"x", name(alloc, b"i")?)?)?,
+        "NoName"
     );
     Ok(())
 }
@@ -403,66 +441,36 @@ fn faulty_selects(rt: HostRuntime) -> Result<(), Fail> {
 #[test]
 fn selects(rt: HostRuntime) -> Result<(), Fail> {
     let alloc = rt.alloc();
-    let scope = scope(alloc)?;
     // b[5:3] of `reg signed [9:2] b` is 3 unsigned bits from place 1 on.
-    let slice = part(alloc, b"b", 5, 3)?;
-    let slice = typed(alloc, &slice, &scope, 0).ok().ok_or("no slice")?;
-    assert!(rt;
-        matches!(
-            slice,
-            TypedExpr {
-                width: 3,
-                signed: false,
-                node: TypedNode::Slice(1, 1, 3)
-            }
-        )
-    );
-    let pick = bit(alloc, b"a", name(alloc, b"i")?)?;
-    let pick = typed(alloc, &pick, &scope, 0).ok().ok_or("no pick")?;
-    assert!(rt;
-        matches!(
-            pick,
-            TypedExpr {
-                width: 1,
-                signed: false,
-                node: TypedNode::Pick(0, _)
-            }
-        )
-    );
-    // b in an unsigned context of 12 bits, and one of its own width.
-    let context = Shape {
-        width: 12,
-        signed: false,
-    };
-    let extended = typed_in(alloc, &name(alloc, b"b")?, &scope, context)
-        .ok()
-        .ok_or("no b")?;
-    assert!(rt;
-        matches!(
-            extended,
-            TypedExpr {
-                width: 12,
-                signed: false,
-                node: TypedNode::Extend(_)
-            }
-        )
-    );
-    let context = Shape {
-        width: 0,
-        signed: false,
-    };
-    let kept = typed_in(alloc, &name(alloc, b"b")?, &scope, context)
-        .ok()
-        .ok_or("no b")?;
-    assert!(rt;
-        matches!(
-            kept,
-            TypedExpr {
-                width: 8,
-                signed: false,
-                node: TypedNode::Signal(1)
-            }
-        )
-    );
+    let slice = typed_alone(alloc, part(alloc, b"b", 5, 3)?)?;
+    assert!(rt; matches!(slice.node, TypedNode::Slice(1, 1, 3)));
+    assert!(rt; slice.width == 3 && !slice.signed);
+    let pick = typed_alone(alloc, bit(alloc, b"a", name(alloc, b"i")?)?)?;
+    assert!(rt; matches!(pick.node, TypedNode::Pick(0, _)));
+    assert!(rt; names_signal(&pick));
     Ok(())
+}
+
+#[test]
+fn contexts_from_outside(rt: HostRuntime) -> Result<(), Fail> {
+    let alloc = rt.alloc();
+    let extended = typed_unsigned(alloc, name(alloc, b"b")?, 12)?;
+    assert!(rt; matches!(extended.node, TypedNode::Extend(_)));
+    assert!(rt; extended.width == 12 && !extended.signed);
+    let kept = typed_unsigned(alloc, name(alloc, b"b")?, 0)?;
+    assert!(rt; matches!(kept.node, TypedNode::Signal(1)));
+    assert!(rt; kept.width == 8 && !kept.signed);
+    Ok(())
+}
+
+#[test]
+fn the_word_of_a_typed_expression(rt: HostRuntime) -> Result<(), Fail> {
+    let alloc = rt.alloc();
+    let scope = scope(alloc)?;
+    let expr = name(alloc, b"P")?;
+    if let Ok(typed) = typed(alloc, &expr, &scope, 9) {
+        assert_eq!(rt; constant_word(&typed), Word::new(9, true, 511));
+        return Ok(());
+    }
+    Err(Fail::from("no typed form"))
 }
