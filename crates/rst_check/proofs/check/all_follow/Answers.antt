@@ -1,4 +1,4 @@
-use Rattle.std.proofs.Common.{arith, ◌≡◌, ◌<◌, ◌≤◌, ◌^◌, ◌+◌, ◌++◌, ◌∷◌, [], length, subst, ap, ◌∙◌, sym, refl, List, ℤ, ℕ, Option, Some, None, true, false, get_or, take}
+use Rattle.std.proofs.Common.{arith, ◌≡◌, ◌<◌, ◌+◌, ◌++◌, ◌∷◌, [], length, subst, ap, ◌∙◌, sym, refl, List, ℤ, ℕ, Option, Some, None, true, false, get_or, take}
 use Rattle.std.proofs.lemmas.List.{get_or_default}
 use Rattle.rst_clause.specs.Literals.{AreClauses}
 use Rattle.rst_clause.specs.Propagation.{Follows}
@@ -59,7 +59,7 @@ returns-in-Some c =
     let all : c.push.new.self ≡ c.loop-i.clauses ++ c.get-line.result.now ∷ [] = c.in_ok-push.ensures.ok ∙ ap (λ z. c.loop-i.clauses ++ z ∷ []) c.as_slice-in-loop-i.ensures in
     let yes : Follows c.loop-i.clauses c.get-line.result.now = subst (λ z. Follows c.loop-i.clauses z) c.as_slice.ensures (c.in_ok-yes.ensures.answer.0 c.if-not-yes.false) in
     let p : Propagates (c.loop-i.clauses ++ c.get-line.result.now ∷ []) c.truncate.new.self c.propagate.new.trail (Some c.in-Some.field-0) = subst (λ (o : Option ℕ). Propagates (c.loop-i.clauses ++ c.get-line.result.now ∷ []) c.truncate.new.self c.propagate.new.trail o) c.in-Some.is
-        (subst (λ (z : List (List ℤ)). Propagates z c.truncate.new.self c.propagate.new.trail c.in_ok-found.found) all c.in_ok-found.ensures) in
+    (subst (λ (z : List (List ℤ)). Propagates z c.truncate.new.self c.propagate.new.trail c.in_ok-found.found) all c.in_ok-found.ensures) in
     ((λ e. replayed_closed cs log c.args.trail.now c.loop-i.clauses c.loop-i.trail c.loop-i.i c.loop-i.invariant c.get-line.result.now lt line c.truncate.new.self c.propagate.new.trail c.in-Some.field-0 yes lits p.grows p.outcome), (λ h. refl))
 
 pub loop-i-preserved : goal.loop-i-preserved
@@ -74,7 +74,7 @@ loop-i-preserved c =
     let all : c.push.new.self ≡ c.loop-i.clauses ++ c.get-line.result.now ∷ [] = c.in_ok-push.ensures.ok ∙ ap (λ z. c.loop-i.clauses ++ z ∷ []) c.as_slice-in-loop-i.ensures in
     let yes : Follows c.loop-i.clauses c.get-line.result.now = subst (λ z. Follows c.loop-i.clauses z) c.as_slice.ensures (c.in_ok-yes.ensures.answer.0 c.if-not-yes.false) in
     let p : Propagates (c.loop-i.clauses ++ c.get-line.result.now ∷ []) c.truncate.new.self c.propagate.new.trail None = subst (λ (o : Option ℕ). Propagates (c.loop-i.clauses ++ c.get-line.result.now ∷ []) c.truncate.new.self c.propagate.new.trail o) c.in-None.is
-        (subst (λ (z : List (List ℤ)). Propagates z c.truncate.new.self c.propagate.new.trail c.in_ok-found.found) all c.in_ok-found.ensures) in
+    (subst (λ (z : List (List ℤ)). Propagates z c.truncate.new.self c.propagate.new.trail c.in_ok-found.found) all c.in_ok-found.ensures) in
     subst (λ (z : List (List ℤ)). Replayed cs log c.args.trail.now z c.propagate.new.trail (c.loop-i.i + 1)) (sym all)
     (replayed_more cs log c.args.trail.now c.loop-i.clauses c.loop-i.trail c.loop-i.i c.loop-i.invariant c.get-line.result.now lt line c.truncate.new.self c.propagate.new.trail yes lits vars p.grows p.vars p.outcome)
 

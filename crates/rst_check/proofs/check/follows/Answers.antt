@@ -38,7 +38,7 @@ propagate-requires-clause-from c =
 pub propagate-requires-clause-complete : goal.propagate-requires-clause-complete
 propagate-requires-clause-complete c =
     let lits : take c.len-floor.result c.loop-i.trail.lits ≡ c.args.trail.now.lits =
-        ap (λ n. take n c.loop-i.trail.lits) c.len-floor.ensures.value ∙ continues_take c.args.trail.now.lits c.loop-i.trail.lits c.loop-i.invariant.continues in
+    ap (λ n. take n c.loop-i.trail.lits) c.len-floor.ensures.value ∙ continues_take c.args.trail.now.lits c.loop-i.trail.lits c.loop-i.invariant.continues in
     let clauses : take c.len.result c.args.clauses.now ≡ c.args.clauses.now = ap (λ n. take n c.args.clauses.now) c.len.ensures ∙ take-length c.args.clauses.now in
     subst (λ z. IsComplete z (take c.len.result c.args.clauses.now)) (sym lits) (subst (λ z. IsComplete c.args.trail.now.lits z) (sym clauses) c.requires.complete)
 
