@@ -6,6 +6,7 @@ use Rattle.rst_grammar.specs.declared.symbol.Symbol.{Symbol}
 use Rattle.rst_tree.specs.Targets.{Place, Places, plain_target, plain_targets}
 use Rattle.rst_tree.specs.Statements.{Statement, Statements, Arms, plain_stmt, plain_stmts, plain_arm, plain_arms, no_arm}
 use Rattle.rst_read.specs.declared.parsed.Parsed.{Parsed}
+use Rattle.rst_read.specs.declared.parsed.Boxed.{Boxed}
 use Rattle.rst_read.specs.declared.parsed.Many.{Many}
 use Rattle.rst_read.specs.declared.parsed.ParsedTarget.{ParsedTarget}
 use Rattle.rst_read.specs.declared.parsed.ManyTargets.{ManyTargets}
@@ -28,6 +29,9 @@ Gives view (Err e) read = Fails e read
 -- the tree that was read, and the symbols after it
 abbrev pub seen : Parsed × Bor (List Symbol) → Tree × List Symbol
 seen x = (plain x.0.tree, x.1.now)
+
+abbrev pub seen_boxed : Boxed × Bor (List Symbol) → Tree × List Symbol
+seen_boxed x = (plain x.0.tree.value, x.1.now)
 
 abbrev pub seen_all : Many × Bor (List Symbol) → Trees × List Symbol
 seen_all x = (plain_all x.0.trees.items, x.1.now)

@@ -5,6 +5,7 @@ ghost use Rattle.rst_tree.specs.Trees.{plain, plain_all};
 ghost use Rattle.rst_tree.specs.Statements.{Block, If, IfElse, Case, end, no_arm, labels as labelled, otherwise, plain_stmt, plain_stmts, plain_arm, plain_arms, appended, appended_arms};
 
 use crate::parsed::{Many, ManyArms, ManyStmts, ParsedArm, ParsedStmt};
+use crate::trees::both_boxed;
 use rst_grammar::Symbol;
 use rst_tree::{Arm, CaseStmt, Expr, Stmt};
 use std::alloc::{AllocError, Global};
@@ -28,8 +29,8 @@ pub fn if_alone(alloc: Global, test: Expr, yes: Stmt) -> Result<Stmt, AllocError
 pub fn if_else(alloc: Global, test: Expr, yes: Stmt, no: Stmt) -> Result<Stmt, AllocError>
     ensures { IfOk result (λ s. plain_stmt s ≡ IfElse (plain test) (plain_stmt yes) (plain_stmt no)) }
 {
-    let yes = Box::new(alloc, yes)?;
-    Ok(Stmt::If(test, yes, Some(Box::new(alloc, no)?)))
+    let (yes, no) = both_boxed(alloc, yes, no)?;
+    Ok(Stmt::If(test, yes, Some(no)))
 }
 
 // A case over these arms.

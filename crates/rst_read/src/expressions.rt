@@ -4,10 +4,10 @@ ghost use Rattle.std.specs.Prelude.{◌≡◌, ◌+◌, ◌≤◌, IfOk, Some};
 ghost use Rattle.rst_tree.specs.Trees.{Tree, plain, height};
 ghost use Rattle.rst_grammar.specs.Expressions.{Spells};
 ghost use Rattle.rst_grammar.specs.Reading.{with_right, part_end, select_end, named_in, number_in, terminal_in, paren_in, signed_in, unsigned_in, list_from, repeat_in, join_in, braces_in, braces_end, unary_in, operand_in, binary_in, choice_in, choice_end, full_in, readers};
-ghost use Rattle.rst_read.specs.Gives.{Gives, seen, seen_all};
+ghost use Rattle.rst_read.specs.Gives.{Gives, seen, seen_all, seen_boxed};
 
 use crate::operators::{level, operator_at, unary_of};
-use crate::parsed::{MOST_HEIGHT, Many, Parsed};
+use crate::parsed::{Boxed, MOST_HEIGHT, Many, Parsed};
 use crate::stop::Stop;
 use crate::terminals::{after, behind};
 use crate::trees::{alone, and, binary_tree, joined, repeated};
@@ -35,6 +35,22 @@ pub fn read_expression<'s, 'a>(
         return Err(Stop::NoTree);
     }
     full_in(alloc, symbols, limit - 1)
+}
+
+// The expression in front, in a box.
+#[cycle(read)]
+fn read_boxed<'s, 'a>(
+    alloc: Global,
+    symbols: &'s [Symbol<'a>],
+    limit: u8,
+) -> Result<(Boxed, &'s [Symbol<'a>]), Stop>
+    ensures reads { Gives seen_boxed result ((readers limit).full symbols.now) }
+    ensures within { IfOk result (λ x. x.0.depth ≤ limit) }
+{
+    let (found, rest) = read_expression(alloc, symbols, limit)?;
+    let depth = found.depth;
+    let tree = Box::new(alloc, found.tree)?;
+    Ok((Boxed { tree, depth }, rest))
 }
 
 #[cycle(read)]
@@ -102,10 +118,10 @@ fn paren_in<'s, 'a>(alloc: Global, rest: &'s [Symbol<'a>], below: u8) -> Answer<
     ensures reads { Gives seen result (paren_in (readers below) rest.now) }
     ensures within { IfOk result (λ x. x.0.depth ≤ below + 1) }
 {
-    let (inner, rest) = read_expression(alloc, rest, below)?;
+    let (inner, rest) = read_boxed(alloc, rest, below)?;
     let rest = after(rest, Terminal::CloseParen)?;
     let depth = inner.depth + 1;
-    let tree = Expr::Paren(Box::new(alloc, inner.tree)?);
+    let tree = Expr::Paren(inner.tree);
     Ok((Parsed { tree, depth }, rest))
 }
 
@@ -116,10 +132,10 @@ fn signed_in<'s, 'a>(alloc: Global, rest: &'s [Symbol<'a>], below: u8) -> Answer
     ensures within { IfOk result (λ x. x.0.depth ≤ below + 1) }
 {
     let rest = after(rest, Terminal::OpenParen)?;
-    let (inner, rest) = read_expression(alloc, rest, below)?;
+    let (inner, rest) = read_boxed(alloc, rest, below)?;
     let rest = after(rest, Terminal::CloseParen)?;
     let depth = inner.depth + 1;
-    let tree = Expr::Signed(Box::new(alloc, inner.tree)?);
+    let tree = Expr::Signed(inner.tree);
     Ok((Parsed { tree, depth }, rest))
 }
 
@@ -130,10 +146,10 @@ fn unsigned_in<'s, 'a>(alloc: Global, rest: &'s [Symbol<'a>], below: u8) -> Answ
     ensures within { IfOk result (λ x. x.0.depth ≤ below + 1) }
 {
     let rest = after(rest, Terminal::OpenParen)?;
-    let (inner, rest) = read_expression(alloc, rest, below)?;
+    let (inner, rest) = read_boxed(alloc, rest, below)?;
     let rest = after(rest, Terminal::CloseParen)?;
     let depth = inner.depth + 1;
-    let tree = Expr::Unsigned(Box::new(alloc, inner.tree)?);
+    let tree = Expr::Unsigned(inner.tree);
     Ok((Parsed { tree, depth }, rest))
 }
 
@@ -192,12 +208,15 @@ fn select_end<'s, 'a>(
     match rest {
         [Symbol::Terminal(Terminal::CloseBracket), rest @ ..] => {
             let depth = index.depth + 1;
-            let name = Name::new(alloc, name.as_slice())?;
-            let tree = Expr::Bit(name, Box::new(alloc, index.tree)?);
+            let index = Box::new(alloc, index.tree)?;
+            let tree = Expr::Bit(Name::new(alloc, name.as_slice())?, index);
             Ok((Parsed { tree, depth }, rest))
         }
         [Symbol::Terminal(Terminal::Colon), rest @ ..] => part_end(alloc, name, index, rest, below),
-        _ => Err(Stop::NoTree),
+        _ => {
+            drop(index);
+            Err(Stop::NoTree)
+        }
     }
 }
 
@@ -214,12 +233,13 @@ fn part_end<'s, 'a>(
     ensures reads { Gives seen result (part_end (readers below) name.now (plain high.tree) rest.now) }
     ensures within { IfOk result (λ x. x.0.depth ≤ below + 1) }
 {
-    let (low, rest) = read_expression(alloc, rest, below)?;
-    let rest = after(rest, Terminal::CloseBracket)?;
-    let depth = high.depth.max(low.depth) + 1;
-    let name = Name::new(alloc, name.as_slice())?;
+    let high_depth = high.depth;
     let high = Box::new(alloc, high.tree)?;
-    let tree = Expr::Part(name, high, Box::new(alloc, low.tree)?);
+    let (low, rest) = read_boxed(alloc, rest, below)?;
+    let rest = after(rest, Terminal::CloseBracket)?;
+    let depth = high_depth.max(low.depth) + 1;
+    let name = Name::new(alloc, name.as_slice())?;
+    let tree = Expr::Part(name, high, low.tree);
     Ok((Parsed { tree, depth }, rest))
 }
 
@@ -254,6 +274,7 @@ fn binary_in<'s, 'a>(
         left = next;
         rest = after;
     }
+    drop(left);
     Err(Stop::NoTree)
 }
 
@@ -270,9 +291,16 @@ fn with_right<'s, 'a>(
     ensures within { IfOk result (λ x. x.0.depth ≤ below + 1) }
 {
     if left.depth > u32::from(below) {
+        drop(left);
         return Err(Stop::NoTree);
     }
-    let (right, rest) = binary(alloc, rest, below, level(op) + 1)?;
+    let (right, rest) = match binary(alloc, rest, below, level(op) + 1) {
+        Ok(found) => found,
+        Err(stop) => {
+            drop(left);
+            return Err(stop);
+        }
+    };
     let depth = left.depth.max(right.depth) + 1;
     let tree = binary_tree(alloc, op, left.tree, right.tree)?;
     Ok((Parsed { tree, depth }, rest))
@@ -289,6 +317,7 @@ fn full_in<'s, 'a>(alloc: Global, symbols: &'s [Symbol<'a>], below: u8) -> Answe
         return Ok((test, rest));
     };
     if test.depth > u32::from(below) {
+        drop(test);
         return Err(Stop::NoTree);
     }
     choice_in(alloc, test, rest, below)
@@ -306,13 +335,13 @@ fn choice_in<'s, 'a>(
     ensures reads { Gives seen result (choice_in (readers below) (plain test.tree) rest.now) }
     ensures within { IfOk result (λ x. x.0.depth ≤ below + 1) }
 {
-    let (yes, rest) = read_expression(alloc, rest, below)?;
-    let rest = after(rest, Terminal::Colon)?;
-    let (no, rest) = read_expression(alloc, rest, below)?;
-    let depth = test.depth.max(yes.depth.max(no.depth)) + 1;
+    let test_depth = test.depth;
     let test = Box::new(alloc, test.tree)?;
-    let yes = Box::new(alloc, yes.tree)?;
-    let tree = Expr::Choose(test, yes, Box::new(alloc, no.tree)?);
+    let (yes, rest) = read_boxed(alloc, rest, below)?;
+    let rest = after(rest, Terminal::Colon)?;
+    let (no, rest) = read_boxed(alloc, rest, below)?;
+    let depth = test_depth.max(yes.depth.max(no.depth)) + 1;
+    let tree = Expr::Choose(test, yes.tree, no.tree);
     Ok((Parsed { tree, depth }, rest))
 }
 
@@ -360,12 +389,14 @@ fn repeat_in<'s, 'a>(
     ensures reads { Gives seen result (repeat_in (readers below) (plain count.tree) rest.now) }
     ensures within { IfOk result (λ x. x.0.depth ≤ below + 1) }
 {
+    let count_depth = count.depth;
+    let count = Box::new(alloc, count.tree)?;
     let (first, rest) = read_expression(alloc, rest, below)?;
     let (all, rest) = list_from(alloc, first, rest, below)?;
     let rest = after(rest, Terminal::CloseBrace)?;
     let rest = after(rest, Terminal::CloseBrace)?;
-    let depth = count.depth.max(all.depth) + 1;
-    let tree = repeated(alloc, count.tree, all.trees)?;
+    let depth = count_depth.max(all.depth) + 1;
+    let tree = repeated(count, all.trees);
     Ok((Parsed { tree, depth }, rest))
 }
 
@@ -402,6 +433,7 @@ pub fn expression<'a>(alloc: Global, symbols: &[Symbol<'a>]) -> Result<Expr, Sto
 {
     let (found, rest) = read_expression(alloc, symbols, MOST_HEIGHT)?;
     if !rest.is_empty() {
+        drop(found);
         return Err(Stop::NoTree);
     }
     Ok(found.tree)

@@ -19,6 +19,14 @@ pub struct Parsed {
     pub ghost exact: { depth ≡ height (plain tree) },
 }
 
+/// An expression in a box with its height.
+#[derive(Drop)]
+pub struct Boxed {
+    pub tree: Box<Expr>,
+    pub depth: u32,
+    pub ghost exact: { depth ≡ height (plain tree.value) },
+}
+
 /// Expressions with their greatest height.
 #[derive(Drop)]
 pub struct Many {

@@ -80,10 +80,20 @@ fn set_in<'s, 'a>(alloc: Global, symbols: &'s [Symbol<'a>], below: u8) -> StmtAn
 {
     let (target, rest) = read_target(alloc, symbols, below)?;
     let Some((blocking, rest)) = assignment_at(rest) else {
+        drop(target);
         return Err(Stop::NoTree);
     };
-    let (value, rest) = read_expression(alloc, rest, below)?;
-    let rest = after(rest, Terminal::Semicolon)?;
+    let (value, rest) = match read_expression(alloc, rest, below) {
+        Ok(found) => found,
+        Err(stop) => {
+            drop(target);
+            return Err(stop);
+        }
+    };
+    let Some(rest) = behind(rest, Terminal::Semicolon) else {
+        drop((target, value));
+        return Err(Stop::NoTree);
+    };
     let depth = target.depth.max(value.depth) + 1;
     let stmt = Stmt::Set(SetStmt {
         target: target.target,
@@ -101,8 +111,17 @@ fn if_in<'s, 'a>(alloc: Global, rest: &'s [Symbol<'a>], below: u8) -> StmtAnswer
 {
     let rest = after(rest, Terminal::OpenParen)?;
     let (test, rest) = read_expression(alloc, rest, below)?;
-    let rest = after(rest, Terminal::CloseParen)?;
-    let (yes, rest) = read_statement(alloc, rest, below)?;
+    let Some(rest) = behind(rest, Terminal::CloseParen) else {
+        drop(test);
+        return Err(Stop::NoTree);
+    };
+    let (yes, rest) = match read_statement(alloc, rest, below) {
+        Ok(found) => found,
+        Err(stop) => {
+            drop(test);
+            return Err(stop);
+        }
+    };
     else_in(alloc, test, yes, rest, below)
 }
 
@@ -125,7 +144,13 @@ fn else_in<'s, 'a>(
         let stmt = if_alone(alloc, test.tree, yes.stmt)?;
         return Ok((ParsedStmt { stmt, depth }, rest));
     };
-    let (no, rest) = read_statement(alloc, rest, below)?;
+    let (no, rest) = match read_statement(alloc, rest, below) {
+        Ok(found) => found,
+        Err(stop) => {
+            drop((test, yes));
+            return Err(stop);
+        }
+    };
     let depth = test.depth.max(yes.depth.max(no.depth)) + 1;
     let stmt = if_else(alloc, test.tree, yes.stmt, no.stmt)?;
     Ok((ParsedStmt { stmt, depth }, rest))
@@ -201,8 +226,17 @@ fn case_in<'s, 'a>(
 {
     let rest = after(rest, Terminal::OpenParen)?;
     let (selector, rest) = read_expression(alloc, rest, below)?;
-    let rest = after(rest, Terminal::CloseParen)?;
-    let (all, rest) = some_arms(alloc, wild, rest, below)?;
+    let Some(rest) = behind(rest, Terminal::CloseParen) else {
+        drop(selector);
+        return Err(Stop::NoTree);
+    };
+    let (all, rest) = match some_arms(alloc, wild, rest, below) {
+        Ok(found) => found,
+        Err(stop) => {
+            drop(selector);
+            return Err(stop);
+        }
+    };
     let depth = selector.depth.max(all.depth) + 1;
     let stmt = case_of(wild, selector.tree, all.arms);
     Ok((ParsedStmt { stmt, depth }, rest))
@@ -312,6 +346,7 @@ pub fn statement<'a>(alloc: Global, symbols: &[Symbol<'a>]) -> Result<Stmt, Stop
 {
     let (found, rest) = read_statement(alloc, symbols, MOST_HEIGHT)?;
     if !rest.is_empty() {
+        drop(found);
         return Err(Stop::NoTree);
     }
     Ok(found.stmt)

@@ -85,13 +85,23 @@ fn target_select<'s, 'a>(
     match rest {
         [Symbol::Terminal(Terminal::CloseBracket), rest @ ..] => {
             let depth = index.depth + 1;
-            let target = Target::Bit(Name::new(alloc, name.as_slice())?, index.tree);
+            let name = match Name::new(alloc, name.as_slice()) {
+                Ok(name) => name,
+                Err(_) => {
+                    drop(index);
+                    return Err(Stop::NoMemory);
+                }
+            };
+            let target = Target::Bit(name, index.tree);
             Ok((ParsedTarget { target, depth }, rest))
         }
         [Symbol::Terminal(Terminal::Colon), rest @ ..] => {
             target_part(alloc, name, index, rest, below)
         }
-        _ => Err(Stop::NoTree),
+        _ => {
+            drop(index);
+            Err(Stop::NoTree)
+        }
     }
 }
 
@@ -107,10 +117,25 @@ fn target_part<'s, 'a>(
     ensures reads { Gives seen_target result (target_part (readers below) name.now (plain high.tree) rest.now) }
     ensures within { IfOk result (λ x. x.0.depth ≤ below + 1) }
 {
-    let (low, rest) = read_expression(alloc, rest, below)?;
-    let rest = after(rest, Terminal::CloseBracket)?;
+    let (low, rest) = match read_expression(alloc, rest, below) {
+        Ok(found) => found,
+        Err(stop) => {
+            drop(high);
+            return Err(stop);
+        }
+    };
+    let Some(rest) = behind(rest, Terminal::CloseBracket) else {
+        drop((high, low));
+        return Err(Stop::NoTree);
+    };
     let depth = high.depth.max(low.depth) + 1;
-    let name = Name::new(alloc, name.as_slice())?;
+    let name = match Name::new(alloc, name.as_slice()) {
+        Ok(name) => name,
+        Err(_) => {
+            drop((high, low));
+            return Err(Stop::NoMemory);
+        }
+    };
     let target = Target::Part(name, high.tree, low.tree);
     Ok((ParsedTarget { target, depth }, rest))
 }

@@ -9,12 +9,24 @@ use rst_tree::Expr;
 use rst_word::BinaryOp;
 use std::alloc::{AllocError, Global};
 
+// Two values, each in a box.
+pub fn both_boxed<A: Drop, B: Drop>(
+    alloc: Global,
+    a: A,
+    b: B,
+) -> Result<(Box<A>, Box<B>), AllocError>
+    ensures { IfOk result (λ x. (x.0.value ≡ a) × (x.1.value ≡ b)) }
+{
+    let a = Box::new(alloc, a)?;
+    Ok((a, Box::new(alloc, b)?))
+}
+
 // A binary operator over its operands.
 pub fn binary_tree(alloc: Global, op: BinaryOp, left: Expr, right: Expr) -> Result<Expr, AllocError>
     ensures { IfOk result (λ e. plain e ≡ Binary op (plain left) (plain right)) }
 {
-    let left = Box::new(alloc, left)?;
-    Ok(Expr::Binary(op, left, Box::new(alloc, right)?))
+    let (left, right) = both_boxed(alloc, left, right)?;
+    Ok(Expr::Binary(op, left, right))
 }
 
 // A join of these parts.
@@ -26,11 +38,10 @@ pub fn joined(parts: Vec<Expr>) -> Expr
 }
 
 // These parts, this many times.
-pub fn repeated(alloc: Global, count: Expr, parts: Vec<Expr>) -> Result<Expr, AllocError>
-    ensures { IfOk result (λ e. plain e ≡ Repeat (plain count) (plain_all parts.items)) }
+pub fn repeated(count: Box<Expr>, parts: Vec<Expr>) -> Expr
+    ensures { plain result ≡ Repeat (plain count.value) (plain_all parts.items) }
 {
-    let count = Box::new(alloc, count)?;
-    Ok(Expr::Repeat(count, parts))
+    Expr::Repeat(count, parts)
 }
 
 // A list of one, and the symbols behind it.

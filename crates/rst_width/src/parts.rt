@@ -28,7 +28,10 @@ pub fn with_next(alloc: Global, parts: Parts, next: SizedExpr) -> Result<Parts, 
     let width = (u16::from(parts.width) + u16::from(own(&next).width)).min(65) as u8;
     let list = match parts.list {
         Ok(list) => with_last(list, by_itself(alloc, next)?)?,
-        Err(fault) => Err(fault),
+        Err(fault) => {
+            drop(next);
+            Err(fault)
+        }
     };
     Ok(Parts { width, list })
 }

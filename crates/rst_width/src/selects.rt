@@ -62,12 +62,14 @@ fn bit_of(
     ensures { IfOk result (λ found. plain_found found ≡ bit_of constant signal shape (plain_typed index)) }
 {
     if !shape.ranged {
+        drop(index);
         return Ok(Found::Own(WidthFault::BadSelect));
     }
     if names_signal(&index) {
         return variable_bit(alloc, constant, signal, shape, index);
     }
     let place = constant_word(&index).number();
+    drop(index);
     if !in_range(shape, place) {
         return Ok(Found::Own(WidthFault::BadSelect));
     }
@@ -115,8 +117,14 @@ pub fn bit_found(
         Ok(index) => index,
     };
     match entry {
-        None => Ok(Found::Earlier(WidthFault::NoName(Name::new(alloc, name.as_slice())?))),
-        Some(Entry::Param(_)) => Ok(Found::Own(WidthFault::BadSelect)),
+        None => {
+            drop(index);
+            Ok(Found::Earlier(WidthFault::NoName(Name::new(alloc, name.as_slice())?)))
+        }
+        Some(Entry::Param(_)) => {
+            drop(index);
+            Ok(Found::Own(WidthFault::BadSelect))
+        }
         Some(Entry::Signal(signal, shape)) => { Ok(bit_of(alloc, constant, signal, shape, index)?) }
     }
 }
@@ -224,19 +232,26 @@ pub fn part_found(
     ensures { IfOk result (λ found. plain_found found ≡ part_found constant name.now entry (plain_answer high) (plain_answer low)) }
 {
     let high = match high {
-        Err(fault) => return Ok(Found::Earlier(fault)),
+        Err(fault) => {
+            drop(low);
+            return Ok(Found::Earlier(fault));
+        }
         Ok(high) => high,
     };
     let low = match low {
-        Err(fault) => return Ok(Found::Earlier(fault)),
+        Err(fault) => {
+            drop(high);
+            return Ok(Found::Earlier(fault));
+        }
         Ok(low) => low,
     };
+    let ends = (number_of(&high), number_of(&low));
+    drop((high, low));
     match entry {
         None => Ok(Found::Earlier(WidthFault::NoName(Name::new(alloc, name.as_slice())?))),
         Some(Entry::Param(_)) => Ok(Found::Own(WidthFault::BadSelect)),
         Some(Entry::Signal(signal, shape)) => {
-            let (high, low) = (number_of(&high), number_of(&low));
-            Ok(part_of(constant, signal, shape, high, low))
+            Ok(part_of(constant, signal, shape, ends.0, ends.1))
         }
     }
 }

@@ -6,8 +6,8 @@ ghost use Rattle.rst_tree.specs.Trees as tree;
 ghost use Rattle.rst_width.specs.Typed.{plain_typed, plain_node};
 ghost use Rattle.rst_width.specs.Plain.{plain_answer, plain_sized, plain_parts};
 ghost use Rattle.rst_width.specs.Scopes.{names_of};
-ghost use Rattle.rst_width.specs.Sized.{by_itself};
-ghost use Rattle.rst_width.specs.Sizing.{one_bit, Comparing, decided, number_sized, named, part_sized, unary_sized, binary_sized, kind_of, cast_sized, sized, sized_parts};
+ghost use Rattle.rst_width.specs.Sized.{by_itself, Shift};
+ghost use Rattle.rst_width.specs.Sizing.{one_bit, Comparing, Moving, Deciding, decided, number_sized, named, part_sized, unary_sized, binary_sized, kind_of, cast_sized, sized, sized_parts};
 ghost use Rattle.rst_width.specs.Cut.{cut, cut_parts, HasWidth, IsFitSized};
 ghost use Rattle.rst_width.specs.Fit.{IsFit};
 
@@ -16,7 +16,7 @@ use crate::scope::{Entry, Scope};
 use crate::selects::{bit_found, number_of_part, part_found, part_shape, signal_at};
 use crate::sized::{Answer, Found, SizedExpr};
 use crate::typed_expr::{Shape, TypedExpr, TypedNode, WidthFault};
-use crate::typing::{by_itself, in_context, larger, own};
+use crate::typing::{both_boxed, by_itself, in_context, larger, own};
 use rst_lex::Literal;
 use rst_outside::{Name, NoMemory};
 use rst_tree::Expr;
@@ -129,11 +129,17 @@ fn above_both(
     ensures { IfOk result (λ s. plain_sized s ≡ decided op (plain_answer left) (plain_answer right)) }
 {
     let found = match (left, right) {
-        (Err(fault), _) => Found::Earlier(fault),
-        (Ok(_), Err(fault)) => Found::Earlier(fault),
+        (Err(fault), right) => {
+            drop(right);
+            Found::Earlier(fault)
+        }
+        (Ok(left), Err(fault)) => {
+            drop(left);
+            Found::Earlier(fault)
+        }
         (Ok(left), Ok(right)) => {
-            let left = Box::new(alloc, left)?;
-            Found::Good(TypedNode::Binary(op, left, Box::new(alloc, right)?))
+            let (left, right) = both_boxed(alloc, left, right)?;
+            Found::Good(TypedNode::Binary(op, left, right))
         }
     };
     Ok(SizedExpr::Leaf(one_bit(), found))
@@ -151,9 +157,84 @@ fn compared(
     ensures { IfOk result (λ s. plain_sized s ≡ binary_sized Comparing op (plain_sized left) (plain_sized right)) }
 {
     let both = larger(own(&left), own(&right));
-    let left = in_context(alloc, left, both)?;
-    let right = in_context(alloc, right, both)?;
-    above_both(alloc, op, left, right)
+    let left = match in_context(alloc, left, both) {
+        Ok(left) => left,
+        Err(no_memory) => {
+            drop(right);
+            return Err(no_memory);
+        }
+    };
+    match in_context(alloc, right, both) {
+        Ok(right) => above_both(alloc, op, left, right),
+        Err(no_memory) => {
+            drop(left);
+            Err(no_memory)
+        }
+    }
+}
+
+// A shift, whose amount stands by itself.
+fn shifted(
+    alloc: Global,
+    op: BinaryOp,
+    left: SizedExpr,
+    right: SizedExpr,
+) -> Result<SizedExpr, AllocError>
+    requires { IsFitSized (plain_sized right) }
+    ensures { IfOk result (λ s. plain_sized s ≡ binary_sized Moving op (plain_sized left) (plain_sized right)) }
+{
+    match by_itself(alloc, right) {
+        Ok(amount) => moved(alloc, op, left, amount),
+        Err(no_memory) => {
+            drop(left);
+            Err(no_memory)
+        }
+    }
+}
+
+// A shift by an amount that is typed.
+fn moved(
+    alloc: Global,
+    op: BinaryOp,
+    left: SizedExpr,
+    amount: Answer,
+) -> Result<SizedExpr, AllocError>
+    ensures { IfOk result (λ s. plain_sized s ≡ Shift op (plain_sized left) (plain_answer amount)) }
+{
+    match Box::new(alloc, left) {
+        Ok(left) => Ok(SizedExpr::Shift(op, left, amount)),
+        Err(failed) => {
+            drop(amount);
+            Err(AllocError::from(failed))
+        }
+    }
+}
+
+// An operator on two truth values, whose operands stand by themselves.
+fn decided(
+    alloc: Global,
+    op: BinaryOp,
+    left: SizedExpr,
+    right: SizedExpr,
+) -> Result<SizedExpr, AllocError>
+    requires left { IsFitSized (plain_sized left) }
+    requires right { IsFitSized (plain_sized right) }
+    ensures { IfOk result (λ s. plain_sized s ≡ binary_sized Deciding op (plain_sized left) (plain_sized right)) }
+{
+    let left = match by_itself(alloc, left) {
+        Ok(left) => left,
+        Err(no_memory) => {
+            drop(right);
+            return Err(no_memory);
+        }
+    };
+    match by_itself(alloc, right) {
+        Ok(right) => above_both(alloc, op, left, right),
+        Err(no_memory) => {
+            drop(left);
+            Err(no_memory)
+        }
+    }
 }
 
 // An operator with two operands.
@@ -169,18 +250,14 @@ fn binary_sized(
 {
     match op {
         BinaryOp::Shl | BinaryOp::Shr | BinaryOp::ArithShl | BinaryOp::ArithShr => {
-            let amount = by_itself(alloc, right)?;
-            Ok(SizedExpr::Shift(op, Box::new(alloc, left)?, amount))
+            shifted(alloc, op, left, right)
         }
         BinaryOp::Lt | BinaryOp::Le | BinaryOp::Gt | BinaryOp::Ge | BinaryOp::Eq | BinaryOp::Ne =>
             compared(alloc, op, left, right),
-        BinaryOp::LogicAnd | BinaryOp::LogicOr => {
-            let left = by_itself(alloc, left)?;
-            above_both(alloc, op, left, by_itself(alloc, right)?)
-        }
+        BinaryOp::LogicAnd | BinaryOp::LogicOr => { decided(alloc, op, left, right) }
         _ => {
-            let left = Box::new(alloc, left)?;
-            Ok(SizedExpr::Binary(op, left, Box::new(alloc, right)?))
+            let (left, right) = both_boxed(alloc, left, right)?;
+            Ok(SizedExpr::Binary(op, left, right))
         }
     }
 }
@@ -235,8 +312,13 @@ fn sized_node(
         }
         Expr::Part(name, high, low) => {
             let high = sized_by_itself(alloc, constant, high, scope)?;
-            let low = sized_by_itself(alloc, constant, low, scope)?;
-            part_sized(alloc, constant, name, scope.entry(name), high, low)
+            match sized_by_itself(alloc, constant, low, scope) {
+                Ok(low) => part_sized(alloc, constant, name, scope.entry(name), high, low),
+                Err(no_memory) => {
+                    drop(high);
+                    Err(no_memory)
+                }
+            }
         }
         Expr::Paren(inner) => sized_node(alloc, constant, inner, scope),
         Expr::Unary(op, operand) => {
@@ -245,20 +327,30 @@ fn sized_node(
         }
         Expr::Binary(op, left, right) => {
             let left = sized(alloc, constant, left, scope)?;
-            let right = sized(alloc, constant, right, scope)?;
-            Ok(binary_sized(alloc, *op, left, right)?)
+            match sized(alloc, constant, right, scope) {
+                Ok(right) => Ok(binary_sized(alloc, *op, left, right)?),
+                Err(no_memory) => {
+                    drop(left);
+                    Err(no_memory)
+                }
+            }
         }
         Expr::Choose(test, yes, no) => {
-            let test = sized_by_itself(alloc, constant, test, scope)?;
             let yes = Box::new(alloc, sized_node(alloc, constant, yes, scope)?)?;
-            let no = sized_node(alloc, constant, no, scope)?;
-            Ok(SizedExpr::Choose(test, yes, Box::new(alloc, no)?))
+            let no = Box::new(alloc, sized_node(alloc, constant, no, scope)?)?;
+            let test = sized_by_itself(alloc, constant, test, scope)?;
+            Ok(SizedExpr::Choose(test, yes, no))
         }
         Expr::Join(parts) => Ok(join_sized(sized_parts(alloc, constant, parts, scope)?)),
         Expr::Repeat(count, parts) => {
             let count = sized_by_itself(alloc, constant, count, scope)?;
-            let parts = sized_parts(alloc, constant, parts, scope)?;
-            Ok(repeat_sized(count, parts))
+            match sized_parts(alloc, constant, parts, scope) {
+                Ok(parts) => Ok(repeat_sized(count, parts)),
+                Err(no_memory) => {
+                    drop(count);
+                    Err(no_memory)
+                }
+            }
         }
         Expr::Signed(inner) => {
             let inner = sized(alloc, constant, inner, scope)?;

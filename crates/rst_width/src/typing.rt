@@ -1,7 +1,7 @@
 // Typing in a context.
 
 ghost use Rattle.std.specs.Prelude.{◌≡◌, ◌≤◌, Bool, Ok, true, IsTrue, IfOk};
-ghost use Rattle.rst_width.specs.Typed.{plain_typed, plain_node, typed, Binary};
+ghost use Rattle.rst_width.specs.Typed.{plain_typed, plain_node, typed, Binary, Choose};
 ghost use Rattle.rst_width.specs.Plain.{plain_sized, plain_answer, plain_found};
 ghost use Rattle.rst_width.specs.Sized.{Leaf, larger, own, brought, is_division, operated, in_context, by_itself};
 ghost use Rattle.rst_width.specs.Steps.{unary_step, binary_step, shift_step, choose_step};
@@ -92,6 +92,18 @@ fn unary_in(alloc: Global, op: UnaryOp, a: Answer, context: Shape) -> Result<Ans
     }
 }
 
+// Two values, each in a box.
+pub fn both_boxed<A: Drop, B: Drop>(
+    alloc: Global,
+    a: A,
+    b: B,
+) -> Result<(Box<A>, Box<B>), AllocError>
+    ensures { IfOk result (λ x. (x.0.value ≡ a) × (x.1.value ≡ b)) }
+{
+    let a = Box::new(alloc, a)?;
+    Ok((a, Box::new(alloc, b)?))
+}
+
 // An operator over its operands.
 fn binary(
     alloc: Global,
@@ -102,8 +114,7 @@ fn binary(
 ) -> Result<TypedExpr, AllocError>
     ensures { IfOk result (λ e. plain_typed e ≡ typed context (Binary op (plain_typed a) (plain_typed b))) }
 {
-    let a = Box::new(alloc, a)?;
-    let b = Box::new(alloc, b)?;
+    let (a, b) = both_boxed(alloc, a, b)?;
     Ok(at(context, TypedNode::Binary(op, a, b)))
 }
 
@@ -127,9 +138,11 @@ fn operated(
 {
     if is_division(op) {
         if names_signal(&a) || names_signal(&b) {
+            drop((a, b));
             return Ok(Err(WidthFault::NotConstant));
         }
         if tests && constant_word(&b).value == 0 {
+            drop((a, b));
             return Ok(Err(WidthFault::ZeroDivisor));
         }
     }
@@ -165,11 +178,39 @@ fn shift_in(
     ensures { IfOk result (λ answer. plain_answer answer ≡ shift_step op (plain_answer a) (plain_answer amount) context) }
 {
     match (a, amount) {
-        (Err(fault), _) => Ok(Err(fault)),
-        (Ok(_), Err(fault)) => Ok(Err(fault)),
+        (Err(fault), amount) => {
+            drop(amount);
+            Ok(Err(fault))
+        }
+        (Ok(a), Err(fault)) => {
+            drop(a);
+            Ok(Err(fault))
+        }
         (Ok(a), Ok(amount)) => {
             let typed = binary(alloc, op, a, amount, context)?;
             Ok(Ok(typed))
+        }
+    }
+}
+
+// A choice over its parts.
+fn choice(
+    alloc: Global,
+    test: TypedExpr,
+    a: TypedExpr,
+    b: TypedExpr,
+    context: Shape,
+) -> Result<TypedExpr, AllocError>
+    ensures { IfOk result (λ e. plain_typed e ≡ typed context (Choose (plain_typed test) (plain_typed a) (plain_typed b))) }
+{
+    match both_boxed(alloc, a, b) {
+        Ok((a, b)) => {
+            let test = Box::new(alloc, test)?;
+            Ok(at(context, TypedNode::Choose(test, a, b)))
+        }
+        Err(no_memory) => {
+            drop(test);
+            Err(no_memory)
         }
     }
 }
@@ -183,15 +224,25 @@ fn choose_in(
 ) -> Result<Answer, AllocError>
     ensures { IfOk result (λ answer. plain_answer answer ≡ choose_step (plain_answer test) (plain_answer a) (plain_answer b) context) }
 {
-    match (test, a, b) {
-        (Err(fault), _, _) => Ok(Err(fault)),
-        (Ok(_), Err(fault), _) => Ok(Err(fault)),
-        (Ok(_), Ok(_), Err(fault)) => Ok(Err(fault)),
-        (Ok(test), Ok(a), Ok(b)) => {
-            let test = Box::new(alloc, test)?;
-            let a = Box::new(alloc, a)?;
-            let b = Box::new(alloc, b)?;
-            Ok(Ok(at(context, TypedNode::Choose(test, a, b))))
+    let test = match test {
+        Ok(test) => test,
+        Err(fault) => {
+            drop((a, b));
+            return Ok(Err(fault));
+        }
+    };
+    match (a, b) {
+        (Err(fault), b) => {
+            drop((test, b));
+            Ok(Err(fault))
+        }
+        (Ok(a), Err(fault)) => {
+            drop((test, a));
+            Ok(Err(fault))
+        }
+        (Ok(a), Ok(b)) => {
+            let typed = choice(alloc, test, a, b, context)?;
+            Ok(Ok(typed))
         }
     }
 }
@@ -215,17 +266,38 @@ pub fn walk(
         }
         SizedExpr::Binary(op, a, b) => {
             let a = walk(alloc, Box::into_inner(a), context, tests)?;
-            let b = walk(alloc, Box::into_inner(b), context, tests)?;
-            binary_in(alloc, op, a, b, context, tests)
+            match walk(alloc, Box::into_inner(b), context, tests) {
+                Ok(b) => binary_in(alloc, op, a, b, context, tests),
+                Err(no_memory) => {
+                    drop(a);
+                    Err(no_memory)
+                }
+            }
         }
         SizedExpr::Shift(op, a, amount) => {
-            let a = walk(alloc, Box::into_inner(a), context, tests)?;
-            shift_in(alloc, op, a, amount, context)
+            match walk(alloc, Box::into_inner(a), context, tests) {
+                Ok(a) => shift_in(alloc, op, a, amount, context),
+                Err(no_memory) => {
+                    drop(amount);
+                    Err(no_memory)
+                }
+            }
         }
         SizedExpr::Choose(test, a, b) => {
-            let a = walk(alloc, Box::into_inner(a), context, tests)?;
-            let b = walk(alloc, Box::into_inner(b), context, tests)?;
-            choose_in(alloc, test, a, b, context)
+            let a = match walk(alloc, Box::into_inner(a), context, tests) {
+                Ok(a) => a,
+                Err(no_memory) => {
+                    drop((test, b));
+                    return Err(no_memory);
+                }
+            };
+            match walk(alloc, Box::into_inner(b), context, tests) {
+                Ok(b) => choose_in(alloc, test, a, b, context),
+                Err(no_memory) => {
+                    drop((test, a));
+                    Err(no_memory)
+                }
+            }
         }
     }
 }

@@ -26,13 +26,13 @@ sized_node-returns-in_ok-sized_parts-in-Join t c =
     sized-Join c.args.constant (names_of c.args.scope.now) (plain c.args.expr.now) (plain_all c.deref-in-Join.result.now) (plain_parts c.in_ok-sized_parts-in-Join.field-0) (plain_sized c.join_sized.result)
     (ap plain c.in-Join.is ∙ plain-Join c.in-Join.parts ∙ ap Join items) c.in_ok-sized_parts-in-Join.ensures.exact c.join_sized.ensures
 
-pub sized_node-returns-in_ok-parts-in-Repeat : goal.sized_node-returns-in_ok-parts-in-Repeat
-sized_node-returns-in_ok-parts-in-Repeat t c =
+pub sized_node-returns-in-Ok-sized_parts : goal.sized_node-returns-in-Ok-sized_parts
+sized_node-returns-in-Ok-sized_parts t c =
     let items : plain_all c.in-Repeat.parts.items ≡ plain_all c.deref-in-Repeat-2.result.now = ap plain_all (sym c.deref-in-Repeat-2.ensures.value) in
     let count : plain c.in-Repeat.count.value ≡ plain c.deref-in-Repeat.result.now = ap plain (sym c.deref-in-Repeat.ensures) in
-    sized-Repeat c.args.constant (names_of c.args.scope.now) (plain c.args.expr.now) (plain c.deref-in-Repeat.result.now) (plain_all c.deref-in-Repeat-2.result.now) (plain_answer c.in_ok-count-in-Repeat.count) (plain_parts c.in_ok-parts-in-Repeat.parts) (plain_sized c.repeat_sized.result)
+    sized-Repeat c.args.constant (names_of c.args.scope.now) (plain c.args.expr.now) (plain c.deref-in-Repeat.result.now) (plain_all c.deref-in-Repeat-2.result.now) (plain_answer c.in_ok-count-in-Repeat.count) (plain_parts c.in-Ok-sized_parts.parts) (plain_sized c.repeat_sized.result)
     (ap plain c.in-Repeat.is ∙ plain-Repeat c.in-Repeat.count c.in-Repeat.parts ∙ ap (Repeat (plain c.in-Repeat.count.value)) items ∙ ap (λ x. Repeat x (plain_all c.deref-in-Repeat-2.result.now)) count)
-    c.in_ok-count-in-Repeat.ensures.exact c.in_ok-parts-in-Repeat.ensures.exact c.repeat_sized.ensures
+    c.in_ok-count-in-Repeat.ensures.exact c.in-Ok-sized_parts.ensures.exact c.repeat_sized.ensures
 
 pub sized_node-returns-in_ok-cast_sized-in-Signed : goal.sized_node-returns-in_ok-cast_sized-in-Signed
 sized_node-returns-in_ok-cast_sized-in-Signed t c =

@@ -12,8 +12,8 @@ binary_in-requires t c =
     let whole = ap plain_sized c.in-Binary.is in
     let fit = rw whole at c.requires.fit in
     let inside = rw whole at c.requires.inside in
-    let is = c.in_ok-b-in-Binary.ensures ∙ ap (λ (s : SizedExpr). in_context c.args.tests (plain_sized s) c.args.context) c.into_inner-in-Binary-2.ensures in
-    λ on. answer_fits c.args.tests (plain_sized c.in-Binary.b.value) c.args.context c.in_ok-b-in-Binary.b on is fit.2 (omega arith)
+    let is = c.in-Ok.ensures ∙ ap (λ (s : SizedExpr). in_context c.args.tests (plain_sized s) c.args.context) c.into_inner-in-Binary-2.ensures in
+    λ on. answer_fits c.args.tests (plain_sized c.in-Binary.b.value) c.args.context c.in-Ok.b on is fit.2 (omega arith)
 
 pub returns-in-Leaf : goal.returns-in-Leaf
 returns-in-Leaf t c =
