@@ -1,0 +1,154 @@
+// Unit propagation.
+use crate::arena::Arena;
+use crate::assignment::{Assignment, FALSE, Reason, TRUE};
+use crate::cells::{byte, word};
+use crate::watches::{BINARY, Watch, Watches};
+use std::alloc::AllocError;
+
+/// A clause that is false.
+#[derive(Clone, Copy)]
+pub enum Conflict {
+    Binary(u32, u32),
+    Clause(u32),
+}
+
+// What a clause is, one of whose watched literals became false. With each the other one.
+enum Look {
+    Satisfied(u32),
+    Moves(u32, u32),
+    Unit(u32),
+    False(u32),
+}
+
+// Looks at a clause of which the literal became false, and finds another literal to watch.
+#[inline(always)]
+fn look_at_literals(values: &[u8], clause: &mut [u32], falsified: u32) -> Look {
+    if clause.len() < 2 {
+        return Look::Satisfied(falsified);
+    }
+    let other = clause[0] ^ clause[1] ^ falsified;
+    let value = byte(values, other);
+    if value == TRUE {
+        return Look::Satisfied(other);
+    }
+    for k in 2..clause.len() {
+        let lit = clause[k];
+        if byte(values, lit) != FALSE {
+            clause[0] = other;
+            clause[1] = lit;
+            clause[k] = falsified;
+            return Look::Moves(other, lit);
+        }
+    }
+    if value == FALSE {
+        Look::False(other)
+    } else {
+        Look::Unit(other)
+    }
+}
+
+// Looks at the clause at the place.
+#[inline(always)]
+fn look_at(values: &[u8], words: &mut [u32], place: u32, falsified: u32) -> Look {
+    let size = word(words, place) as usize;
+    let start = place as usize + 2;
+    let end = start + size;
+    if end <= words.len() {
+        look_at_literals(values, &mut words[start..end], falsified)
+    } else {
+        Look::Satisfied(falsified)
+    }
+}
+
+// Keeps the watches that were not looked at.
+#[inline(never)]
+fn keep_rest(watches: &mut Watches, lit: u32, from: u32, end: u32, kept: u32) {
+    let mut to = kept;
+    for i in from..end {
+        let watch = watches.at(i);
+        watches.put(to, watch);
+        to = to.wrapping_add(1);
+    }
+    watches.cut(lit, to);
+}
+
+// Looks at the clauses that watch the opposite of the literal.
+fn visit(
+    assignment: &mut Assignment,
+    watches: &mut Watches,
+    arena: &mut Arena,
+    lit: u32,
+) -> Result<Option<Conflict>, AllocError> {
+    let list = watches.list(lit);
+    let end = list.start.wrapping_add(list.len);
+    let falsified = lit ^ 1;
+    let mut kept = list.start;
+    for i in list.start..end {
+        let watch = watches.at(i);
+        let value = assignment.value(watch.blocker);
+        if value == TRUE {
+            watches.put(kept, watch);
+            kept = kept.wrapping_add(1);
+            continue;
+        }
+        if watch.clause == BINARY {
+            watches.put(kept, watch);
+            kept = kept.wrapping_add(1);
+            if value == FALSE {
+                keep_rest(watches, lit, i.wrapping_add(1), end, kept);
+                return Ok(Some(Conflict::Binary(falsified, watch.blocker)));
+            }
+            assignment.assign(watch.blocker, Reason::Binary(falsified));
+            continue;
+        }
+        match look_at(
+            &assignment.values,
+            &mut arena.words,
+            watch.clause,
+            falsified,
+        ) {
+            Look::Satisfied(blocker) => {
+                let clause = watch.clause;
+                watches.put(kept, Watch { clause, blocker });
+                kept = kept.wrapping_add(1);
+            }
+            Look::Moves(blocker, next) => {
+                let clause = watch.clause;
+                watches.push(next ^ 1, Watch { clause, blocker })?;
+            }
+            Look::Unit(blocker) => {
+                let clause = watch.clause;
+                watches.put(kept, Watch { clause, blocker });
+                kept = kept.wrapping_add(1);
+                assignment.assign(blocker, Reason::Clause(clause));
+            }
+            Look::False(blocker) => {
+                let clause = watch.clause;
+                watches.put(kept, Watch { clause, blocker });
+                kept = kept.wrapping_add(1);
+                keep_rest(watches, lit, i.wrapping_add(1), end, kept);
+                return Ok(Some(Conflict::Clause(clause)));
+            }
+        }
+    }
+    watches.cut(lit, kept);
+    Ok(None)
+}
+
+/// Adds what follows from the literals that stand. A clause that is false, if one is.
+pub fn propagate(
+    assignment: &mut Assignment,
+    watches: &mut Watches,
+    arena: &mut Arena,
+) -> Result<Option<Conflict>, AllocError> {
+    let most = assignment.vars;
+    for _ in 0..most {
+        let Some(lit) = assignment.next() else {
+            return Ok(None);
+        };
+        if let Some(conflict) = visit(assignment, watches, arena, lit)? {
+            return Ok(Some(conflict));
+        }
+    }
+    Ok(None)
+}
