@@ -3,7 +3,5 @@
 
 mod check;
 mod range;
-#[cfg(test)]
-mod tests;
 
 pub use check::refutes;

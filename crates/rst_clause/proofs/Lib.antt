@@ -9,3 +9,4 @@ pub mod Scan
 pub mod Noting
 pub mod Queueing
 pub mod Grown
+pub mod Apart

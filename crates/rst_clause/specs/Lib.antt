@@ -3,6 +3,7 @@ pub mod Parts
 pub mod Propagation
 pub mod Operations
 pub mod Standing
+pub mod Solutions
 pub mod Results
 pub mod Extension
 pub mod Paths

@@ -36,3 +36,22 @@ IsTight clauses path =
     ((i : ℕ) → i < length path → slice_index_or path i Unknown ≡ Unknown)
     ⊎ ((i : ℕ) × (i < length path) × (slice_index_or path i Unknown ≢ Unknown)
     × (Closes (units (path_literals (slice_set path i Unknown)) ++ clauses) → ⊥))
+
+-- a path over the free bits that is tight and has no solution
+pub record IsPath (free : ℕ) (clauses : List (List ℤ)) (path : List Tern) : Type 0 where
+  pub width : length path ≡ free
+  pub tight : IsTight clauses path
+  pub empty : HasNoSolution clauses path
+
+-- no two of the paths meet
+abbrev pub AreApart : List (List Tern) → Type 0
+AreApart paths = (i j : ℕ) → i < j → j < length paths → AreDisjoint (slice_index_or paths i []) (slice_index_or paths j [])
+
+-- each path has so many places
+abbrev pub AreWide : ℕ → List (List Tern) → Type 0
+AreWide free paths = (i : ℕ) → i < length paths → length (slice_index_or paths i []) ≡ free
+
+-- the paths are tight, have no solution, and no two of them meet
+pub record ArePaths (free : ℕ) (clauses : List (List ℤ)) (paths : List (List Tern)) : Type 0 where
+  pub each : (i : ℕ) → i < length paths → IsPath free clauses (slice_index_or paths i [])
+  pub apart : AreApart paths

@@ -1,8 +1,10 @@
-ghost use Rattle.std.specs.Prelude.{ℕ, Bool, ℤ, List};
+ghost use Rattle.std.specs.Prelude.{ℕ, ◌≤◌, ◌^◌, Bool, ℤ, List, length};
+ghost use Rattle.rst_value.specs.declared.tern.Tern.{Tern};
 ghost use Rattle.rst_clause.specs.Literals.{Solves};
 ghost use Rattle.rst_clause.specs.Propagation.{IsRefutation};
 ghost use Rattle.rst_clause.specs.Operations.{IsDefined};
 ghost use Rattle.rst_clause.specs.Extension.{HasOneExtension};
+ghost use Rattle.rst_clause.specs.Paths.{AreApart, AreWide};
 
 /// The law that a log which refutes clauses tells the truth: they have no solution.
 pub fn refutations_refute()
@@ -14,4 +16,10 @@ pub fn refutations_refute()
 /// gates define, and that unit propagation finds this extension.
 pub fn one_extension()
     ensures { (free vars : ℕ) (fixed : List (List ℤ)) → IsDefined free vars fixed → HasOneExtension free vars fixed }
+{}
+
+/// The law that paths over `free` bits, no two of which meet, are at most as many as the choices of
+/// these bits.
+pub fn disjoint_paths_are_few()
+    ensures { (free : ℕ) (paths : List (List Tern)) → AreWide free paths → AreApart paths → length paths ≤ 2 ^ free }
 {}

@@ -21,7 +21,7 @@ pub use clause::Clause;
 pub use clause_domain::ClauseDomain;
 pub use clauses::Clauses;
 pub use indexed::IndexedClauses;
-pub use laws::{one_extension, refutations_refute};
+pub use laws::{disjoint_paths_are_few, one_extension, refutations_refute};
 pub use lit::Lit;
 pub use log::Log;
 pub use propagation::propagate;

@@ -5,5 +5,3 @@
 mod bench;
 #[cfg(test)]
 mod check;
-#[cfg(test)]
-mod solver;

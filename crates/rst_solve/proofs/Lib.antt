@@ -1,9 +1,7 @@
-pub mod Walk
-pub mod Steps
-pub mod End
 pub mod Places
-pub mod Counting
-pub mod Branches
+pub mod Paths
 pub mod Models
-pub mod Leaves
-pub mod Start
+pub mod Descents
+pub mod Lines
+pub mod Steps
+pub mod Ends

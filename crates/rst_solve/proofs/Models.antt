@@ -4,8 +4,8 @@ use Rattle.std.specs.List.{Contains}
 use Rattle.std.proofs.Math.ListN.{get_or-append}
 use Rattle.std.proofs.Math.Nat.{eq-or-lt_of_le}
 use Rattle.std.proofs.Math.Seq.{get_or-append_seam}
-use Rattle.std.proofs.Math.Logic.{∥∥₁_elim}
-use Rattle.std.proofs.lemmas.List.Elements.{Contains-push_cases, Contains-append_cases, All-contains}
+use Rattle.std.proofs.Math.Logic.{∥∥₁_elim, ∥∥₁_prop}
+use Rattle.std.proofs.lemmas.List.Elements.{Contains-push_cases, Contains-append_left, Contains-append_cases, All-contains}
 use Rattle.rst_clause.specs.Literals.{opposite, literal_holds, Solves, IsLiteral, AreLiterals, AreClauses}
 use Rattle.rst_clause.specs.Propagation.{units}
 use Rattle.rst_clause.specs.Operations.{IsDefined}
@@ -14,8 +14,9 @@ use Rattle.rst_clause.specs.Trails.{IsComplete, IsQuiet, IsConsistent}
 use Rattle.rst_clause.proofs.Members.{Contains-nil, Contains-first, Contains-later, Contains-one, Contains-cons_cases, Contains-from_map, Holds-or, same_or_not}
 use Rattle.rst_clause.proofs.Extending.{defined_extends}
 use Rattle.rst_clause.proofs.Grown.{derived_stands}
-use Rattle.rst_solve.specs.Search.{Knows, AllKnownTo, IsModel}
-use Rattle.rst_solve.specs.Tree.{IsSolution}
+use Rattle.rst_clause.specs.Solutions.{IsSolution}
+use Rattle.rst_solve.specs.Choices.{Knows, AllKnownTo, IsModel}
+use Rattle.rst_solve.specs.Tree.{ArePosed}
 
 contains_or_not : (t : List ℤ) (k : ℤ) → Contains t k ⊎ (Contains t k → ⊥)
 contains_or_not [] k = inr (λ h. Contains-nil k h)
@@ -117,17 +118,26 @@ module _ (free vars : ℕ) (fixed cs : List (List ℤ)) (t : List ℤ) (con : Is
   pub trail_solution : ∥ IsDefined free vars fixed ∥₁ → (bits : List Bool) → IsModel t free bits → IsSolution free cs bits
   trail_solution defined bits m = (
     m.width,
-    (
+    ∣ (
       value_in t,
       λ i lt. begins i (known i lt) (get_or bits i false) refl (m.right i lt),
       trail_solves defined,
-    ),
+    ) ∣₁,
   )
     where
       begins : (i : ℕ) → Knows t i → (b : Bool) → get_or bits i false ≡ b → (get_or bits i false ≡ true) ↔ Contains t (pos (suc i)) → value_in t (suc i) ≡ get_or bits i false
       begins i (inl p) b e r = value-one t (suc i) p ∙ sym (r.1 p)
       begins i (inr n) true e r = absurd (con (pos (suc i)) (r.0 e) n)
       begins i (inr n) false e r = value-zero t i con n ∙ sym e
+
+-- a complete trail that knows the free bits of a query gives a solution
+pub posed_solution : (free vars : ℕ) (cs : List (List ℤ)) (t : List ℤ) → IsConsistent t → IsComplete t cs → AreClauses vars cs → AllKnownTo t free
+    → ∥ ArePosed free vars cs ∥₁ → (bits : List Bool) → IsModel t free bits → IsSolution free cs bits
+posed_solution free vars cs t con q ok known posed bits m = (
+  m.width,
+  ∥∥₁_elim posed ∥∥₁_prop (λ p.
+      (trail_solution free vars p.fixed cs t con q (λ c h. subst (λ z. Contains z c) (sym p.parts) (Contains-append_left p.fixed p.required c h)) ok known p.defined bits m).1),
+)
 
 -- one more value
 pub model_push : (t : List ℤ) (n : ℕ) (bits : List Bool) (b : Bool) → IsModel t n bits → (b ≡ true) ↔ Contains t (pos (suc n)) → IsModel t (n + 1) (bits ++ b ∷ [])

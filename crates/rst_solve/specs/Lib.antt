@@ -1,4 +1,5 @@
-pub mod Analysis
-pub mod Search
+pub mod Choices
 pub mod Tree
+pub mod Records
 pub mod Answers
+pub mod Finds

@@ -1,45 +1,17 @@
--- The tree of decisions: where the search stands in it, and what it adds.
-use Rattle.std.specs.Prelude.{◌≡◌, ◌≢◌, ℕ, suc, ◌+◌, ◌-◌, ◌^◌, ◌<◌, ◌≤◌, ℤ, Bool, List, [], ◌++◌, length, take, slice_index_or}
+-- Where a search stands in the tree of decisions. The deepest decision comes first.
+use Rattle.std.specs.Prelude.{◌≡◌, ℕ, ◌<◌, ◌≤◌, ℤ, false, List, [], ◌∷◌, ◌++◌, length, take, map, replicate, slice_set}
 use Rattle.std.specs.List.{Contains}
 use Rattle.rst_value.specs.declared.tern.Tern.{Tern}
 use Rattle.rst_value.specs.declared.tern.Tern.TheVariants.{Unknown}
-use Rattle.rst_clause.specs.Literals.{Solves}
+use Rattle.rst_value.specs.Terns.{known}
+use Rattle.rst_clause.specs.Literals.{opposite}
 use Rattle.rst_clause.specs.Propagation.{AllDerived, units}
 use Rattle.rst_clause.specs.Operations.{IsDefined}
-use Rattle.rst_clause.specs.Standing.{BeginsWith}
-use Rattle.rst_clause.specs.Paths.{path_literals, LiesIn, AreDisjoint, HasNoSolution, IsTight}
-use Rattle.rst_solve.specs.Search.{AllKnownTo}
-use Rattle.rst_solve.specs.declared.search.Bounds.{Bounds}
-use Rattle.rst_solve.specs.declared.search.State.{State}
-use Rattle.rst_solve.specs.declared.search.Found.{Found}
-use Rattle.rst_solve.specs.declared.search.Found.TheVariants.{Closed, Model, Spent}
-
--- the clauses that were given, before those learnt
-abbrev pub original : Bounds → State → List (List ℤ)
-original b s = take b.base s.all
-
--- no learnt clause is empty
-abbrev pub NoneEmpty : ℕ → List (List ℤ) → Type 0
-NoneEmpty base all = (i : ℕ) → base ≤ i → i < length all → slice_index_or all i [] ≢ []
-
--- no learnt clause before the last is empty
-abbrev pub LastEmpty : ℕ → List (List ℤ) → Type 0
-LastEmpty base all = (i : ℕ) → base ≤ i → suc i < length all → slice_index_or all i [] ≢ []
-
--- a path over the free bits that is tight and has no solution
-pub record IsPath (free : ℕ) (clauses : List (List ℤ)) (path : List Tern) : Type 0 where
-  pub width : length path ≡ free
-  pub tight : IsTight clauses path
-  pub empty : HasNoSolution clauses path
-
--- the paths are such, and no two of them meet
-pub record ArePaths (free : ℕ) (clauses : List (List ℤ)) (paths : List (List Tern)) : Type 0 where
-  pub each : (i : ℕ) → i < length paths → IsPath free clauses (slice_index_or paths i [])
-  pub apart : (i j : ℕ) → i < j → j < length paths → AreDisjoint (slice_index_or paths i []) (slice_index_or paths j [])
-
--- none of the paths meets this one
-abbrev pub KeepsApart : List (List Tern) → List Tern → Type 0
-KeepsApart paths path = (i : ℕ) → i < length paths → AreDisjoint (slice_index_or paths i []) path
+use Rattle.rst_clause.specs.Extension.{literal_of}
+use Rattle.rst_clause.specs.Trails.{IsComplete, AllFalse}
+use Rattle.rst_solve.specs.Choices.{AllKnownTo, IsOpen}
+use Rattle.rst_solve.specs.declared.levels.Level.{Level}
+use Rattle.rst_solve.specs.declared.tree.Tree.{Tree}
 
 -- the clauses define the variables up to vars over the free bits, and ask more
 pub record ArePosed (free vars : ℕ) (clauses : List (List ℤ)) : Type 0 where
@@ -48,36 +20,50 @@ pub record ArePosed (free vars : ℕ) (clauses : List (List ℤ)) : Type 0 where
   pub parts : clauses ≡ fixed ++ required
   pub defined : ∥ IsDefined free vars fixed ∥₁
 
--- Before the decision on the bit `next`: the trail has the decisions and what they imply, each earlier bit is
--- known, and no place from `next` on is decided.
-pub record IsAt (b : Bounds) (s : State) (next : ℕ) : Type 0 where
-  pub posed : ArePosed b.free b.vars (original b s)
-  pub paths : ArePaths b.free (original b s) s.paths.items
-  pub derived : AllDerived (units (path_literals s.path.items) ++ s.all) s.trail.lits
-  pub stands : (k : ℤ) → Contains (path_literals s.path.items) k → Contains s.trail.lits k
-  pub known : AllKnownTo s.trail.lits next
-  pub unknown : (j : ℕ) → next ≤ j → slice_index_or s.path.items j Unknown ≡ Unknown
+-- the literal that was decided, and that of the value 0
+abbrev pub decided : Level → ℤ
+decided l = literal_of l.value l.bit
 
--- there are fewer paths than choices, with those that the bits from `next` on can add
-abbrev pub HasRoomAt : Bounds → State → ℕ → Type 0
-HasRoomAt b s next = length s.paths.items + 2 ^ (b.free - next) ≤ 2 ^ b.free
+abbrev pub low : Level → ℤ
+low l = literal_of false l.bit
 
--- the bits begin a choice that solves the clauses
-abbrev pub IsSolution : ℕ → List (List ℤ) → List Bool → Type 0
-IsSolution free clauses bits = (length bits ≡ free) × ((v : ℕ → Bool) × BeginsWith free bits v × Solves v clauses)
+abbrev pub decisions : List Level → List ℤ
+decisions levels = map decided levels
 
--- what a search says of the paths
-abbrev pub Tells : Bounds → State → List (List Tern) → Found → Type 0
-Tells b new added Closed = (0 < length added) × LastEmpty b.base new.all
-Tells b new added (Model bits) = IsSolution b.free (original b new) bits
-Tells b new added Spent = b.left < 2 ^ b.free
+-- the clause that says that one of the literals is false
+abbrev pub denied : List ℤ → List ℤ
+denied lits = map opposite lits
 
--- what a search below the path added: paths within it
-pub record Explored (b : Bounds) (old new : State) (path : List Tern) (next : ℕ) (found : Found) : Type 0 where
-  pub path_is : new.path.items ≡ old.path.items
-  pub added : List (List Tern)
-  pub all : new.paths.items ≡ old.paths.items ++ added
-  pub paths : ArePaths b.free (original b new) new.paths.items
-  pub within : (i : ℕ) → i < length added → (v : ℕ → Bool) → LiesIn v (slice_index_or added i []) → LiesIn v path
-  pub few : length added ≤ 2 ^ (b.free - next)
-  pub tells : Tells b new added found
+-- the path of the decisions
+abbrev pub path_of : ℕ → List Level → List Tern
+path_of free [] = replicate free Unknown
+path_of free (l ∷ levels) = slice_set (path_of free levels) l.bit (known l.value)
+
+-- the decisions stand, and all that stands follows from them by unit propagation
+pub record Stands (clauses : List (List ℤ)) (decided lits : List ℤ) : Type 0 where
+  pub has : (k : ℤ) → Contains decided k → Contains lits k
+  pub derived : AllDerived (units decided ++ clauses) lits
+
+-- before the decision propagation was complete, the bits below it were known, and it was open
+pub record IsLevel (free : ℕ) (clauses : List (List ℤ)) (l : Level) (lits : List ℤ) : Type 0 where
+  pub bit : l.bit < free
+  pub floor : l.floor ≤ length lits
+  pub complete : IsComplete (take l.floor lits) clauses
+  pub known : AllKnownTo (take l.floor lits) l.bit
+  pub was_open : IsOpen (take l.floor lits) l.bit
+
+-- what stands, decision by decision
+abbrev pub IsPlace : ℕ → List (List ℤ) → List Level → List ℤ → Type 0
+IsPlace free clauses [] lits = Stands clauses [] lits
+IsPlace free clauses (l ∷ levels) lits =
+    Stands clauses (decisions (l ∷ levels)) lits × IsLevel free clauses l lits × IsPlace free clauses levels (take l.floor lits)
+
+-- the parts of a search that say where it stands
+pub record IsAt (free vars : ℕ) (clauses : List (List ℤ)) (t : Tree) : Type 0 where
+  pub range : t.trail.vars ≡ vars
+  pub path : t.path.items ≡ path_of free t.levels
+  pub place : IsPlace free clauses t.levels t.trail.lits
+
+-- a clause is false
+abbrev pub HasFalse : List (List ℤ) → List ℤ → Type 0
+HasFalse clauses lits = (c : List ℤ) × Contains clauses c × AllFalse lits c

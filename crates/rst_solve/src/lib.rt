@@ -1,11 +1,14 @@
-//! The solver: a search with clauses learnt from conflicts, which answers a model, a log that
-//! refutes, or as many paths as it was allowed.
+//! The solver: it answers a model, a log that refutes, or as many paths as it was allowed. What a
+//! conflict-driven solver finds is checked, a model by evaluation and a log by replay; where it
+//! gives up, a tree of decisions is searched.
 #![tactic(auto)]
 
-mod analyze;
+mod climb;
+mod evaluate;
+mod finder;
+mod levels;
 mod search;
 mod solver;
-#[cfg(test)]
-mod tests;
+mod tree;
 
 pub use solver::{Answer, solve};

@@ -1,15 +1,23 @@
-ghost use Rattle.std.specs.Prelude.{◌≡◌, ◌++◌, ◌<◌, ◌≤◌, ◌^◌, length, IfOk, OnOk, take, replicate};
+ghost use Rattle.std.specs.Prelude.{◌≡◌, ◌≤◌, ◌<◌, IfOk, IfSome, IsTrue, replicate, length, ◌∷◌, []};
 ghost use Rattle.rst_value.specs.declared.tern.Tern.TheVariants.{Unknown};
+ghost use Rattle.rst_clause.specs.Literals.{Solves};
+ghost use Rattle.rst_clause.specs.Passes.{clauses_of};
+ghost use Rattle.rst_clause.specs.Solutions.{IsSolution};
+ghost use Rattle.rst_solve.specs.Choices.{choice_of};
 ghost use Rattle.rst_solve.specs.Answers.{Answers};
 
-use crate::search::{Bounds, Found, State, close};
-use rst_clause::{Clause, Clauses, IndexedClauses, Log, Trail};
+use crate::evaluate::solves;
+use crate::finder::{Found, find};
+use crate::search::search;
+use crate::tree::Posed;
+use rst_check::refutes;
+use rst_clause::{Clauses, Log};
 use rst_gate::{Bits, Cube};
 use rst_outside::NoMemory;
 use rst_value::Tern;
 use std::alloc::Global;
 
-/// What a search found, with its paths: the places of the free bits at each conflict.
+/// What a search found, with its paths: places of the free bits at which it met conflicts.
 #[derive(Drop)]
 pub enum Answer {
     /// Values of the free bits that solve the clauses.
@@ -20,19 +28,60 @@ pub enum Answer {
     Spent { paths: Vec<Cube> },
 }
 
-// The clauses from `base` on.
-fn log_of(alloc: Global, all: &IndexedClauses, base: usize) -> Result<Log, NoMemory>
-    requires { base ≤ length all.now }
-    ensures { IfOk result (λ log. take base all.now ++ log ≡ all.now) }
+// The values of the free bits, where the values of the variables from 1 on solve the clauses.
+fn model(alloc: Global, clauses: &Clauses, values: &[bool]) -> Result<Option<Bits>, NoMemory>
+    ensures { IfOk result (λ found. IfSome found (λ bits. IsSolution clauses.now.free (clauses_of clauses.now) bits)) }
 {
-    let mut log = Log::new(alloc);
-    for i in base..all.len() {
-        log.push(Clause::from_slice(alloc, all.get(i))?)?;
+    let width = clauses.free as usize;
+    if values.len() < width
+        || !solves(values, &clauses.fixed)
+        || !solves(values, &clauses.required)
+    {
+        return Ok(None);
     }
-    Ok(log)
+    Ok(Some(Bits::from_slice(alloc, &values[..width])?))
+}
+
+// The path of all X, alone.
+fn whole(alloc: Global, free: u32) -> Result<Vec<Cube>, NoMemory>
+    ensures { IfOk result (λ paths. paths.items ≡ replicate free Unknown ∷ []) }
+{
+    let width = free as usize;
+    let places = vec![in alloc; Tern::Unknown; width]?;
+    let mut paths = Vec::new(alloc);
+    paths.push(Cube::from_slice(alloc, &places)?)?;
+    Ok(paths)
+}
+
+// What the finder found, where the checks bear it out.
+fn checked(alloc: Global, clauses: &Clauses, left: u32) -> Result<Option<Answer>, NoMemory>
+    ensures { IfOk result (λ found. IfSome found (λ a. Answers clauses.now left a)) }
+{
+    match find(alloc, clauses, left)? {
+        Found::Model(values) => match model(alloc, clauses, &values)? {
+            Some(bits) => {
+                let paths = Vec::new(alloc);
+                Ok(Some(Answer::Model { bits, paths }))
+            }
+            None => Ok(None),
+        },
+        Found::Refuted(log) => {
+            if left == 0 || !refutes(alloc, clauses, &log)? {
+                return Ok(None);
+            }
+            let paths = whole(alloc, clauses.free)?;
+            Ok(Some(Answer::Refuted { log, paths }))
+        }
+        Found::Nothing => Ok(None),
+    }
 }
 
 /// Searches for a solution of the clauses, with at most `left` paths.
+///
+/// First a conflict-driven solver searches, with four conflicts for each path that is allowed. Its
+/// model is evaluated, and its log replayed; a refutation has one path then, in which no place is
+/// known. Where the solver gives up, or what it found does not pass, a tree of decisions on the
+/// free bits is searched, in their order.
 ///
 /// The paths are pairwise disjoint, tight on the clauses, and none has a solution. A model solves
 /// the clauses. Refuted has at least one path, its log passes, and only its last clause is empty.
@@ -41,35 +90,14 @@ fn log_of(alloc: Global, all: &IndexedClauses, base: usize) -> Result<Log, NoMem
 pub fn solve(alloc: Global, clauses: &Clauses, left: u32) -> Result<Answer, NoMemory>
     ensures { IfOk result (λ a. Answers clauses.now left a) }
 {
-    let all = clauses.all(alloc)?;
-    let base = all.len();
-    let b = Bounds {
+    if let Some(answer) = checked(alloc, clauses, left)? {
+        return Ok(answer);
+    }
+    let q = Posed {
         alloc,
         free: clauses.free,
         vars: clauses.vars,
-        left: left as usize,
-        base,
+        all: clauses.all(alloc)?,
     };
-    let width = clauses.free as usize;
-    let mut s = State {
-        all,
-        trail: Trail::new(alloc, clauses.vars)?,
-        path: vec![in alloc; Tern::Unknown; width]?,
-        paths: Vec::new(alloc),
-    };
-    let found = close(&b, &mut s, 0, 0, 0)?;
-    match found {
-        Found::Closed => {
-            let log = log_of(alloc, &s.all, base)?;
-            Ok(Answer::Refuted {
-                log,
-                paths: s.paths,
-            })
-        }
-        Found::Model(bits) => Ok(Answer::Model {
-            bits,
-            paths: s.paths,
-        }),
-        Found::Spent => Ok(Answer::Spent { paths: s.paths }),
-    }
+    search(&q, left)
 }

@@ -1,0 +1,64 @@
+// Logs over two free bits of which both the exclusive or and the conjunction are required, or the
+// first alone, worked by hand. The variable 4 is the exclusive or, 5 the conjunction.
+use rst_check::refutes;
+use rst_clause::{Clause, ClauseDomain, Clauses, Lit, Log};
+use rst_outside::NoMemory;
+use rst_value::Domain;
+use std::alloc::Global;
+use std::test::Fail;
+
+fn query(alloc: Global, both: bool) -> Result<Clauses, NoMemory> {
+    let mut domain = ClauseDomain::new(alloc, 2)?;
+    let x = domain.free_bit(0);
+    let y = domain.free_bit(1);
+    let differ = domain.xor(x, y)?;
+    let meet = domain.and(x, y)?;
+    domain.require(&[differ])?;
+    if both {
+        domain.require(&[meet])?;
+    }
+    Ok(domain.finish())
+}
+
+// A log of the lines of one literal each, and the empty line where it is to end so.
+fn log_of(alloc: Global, numbers: &[i32], ends: bool) -> Result<Log, NoMemory> {
+    let mut log = Log::new(alloc);
+    for number in numbers {
+        if *number != 0 {
+            log.push(Clause::from_slice(alloc, &[Lit::new(*number)])?)?;
+        }
+    }
+    if ends {
+        log.push(Clause::new(alloc))?;
+    }
+    Ok(log)
+}
+
+// Whether the log of these lines refutes the query.
+fn verdict(alloc: Global, both: bool, numbers: &[i32], ends: bool) -> Result<bool, NoMemory> {
+    let clauses = query(alloc, both)?;
+    let log = log_of(alloc, numbers, ends)?;
+    let yes = refutes(alloc, &clauses, &log)?;
+    Ok(yes)
+}
+
+#[test]
+fn logs_refute_or_not(rt: HostRuntime) -> Result<(), Fail> {
+    // A number 0 stands for no line.
+    let rows = [
+        (true, [0, 0], true, true),
+        (true, [1, -3], true, true),
+        (true, [0, 0], false, false),
+        (true, [1, 0], false, false),
+        (true, [9, 0], true, false),
+        (true, [2147483647, 0], true, false),
+        (true, [-2147483648, 0], true, false),
+        (false, [0, 0], true, false),
+        (false, [1, 0], true, false),
+    ];
+    for (i, (both, numbers, ends, want)) in rows.iter().enumerate() {
+        let yes = verdict(rt.alloc(), *both, numbers, *ends)?;
+        assert_eq!(rt; yes, *want, "row {i}");
+    }
+    Ok(())
+}

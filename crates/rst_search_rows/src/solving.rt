@@ -1,0 +1,160 @@
+// What the solver answers, and that the checker confirms its logs.
+use rst_check::refutes;
+use rst_clause::{Clause, ClauseDomain, Clauses, Lit, Log};
+use rst_outside::NoMemory;
+use rst_solve::{Answer, solve};
+use rst_value::{Domain, Tern};
+use std::alloc::Global;
+use std::test::Fail;
+
+// Two free bits that have to differ, and both to be true as well where that is asked.
+fn two_bits(alloc: Global, both: bool) -> Result<Clauses, NoMemory> {
+    let mut domain = ClauseDomain::new(alloc, 2)?;
+    let x = domain.free_bit(0);
+    let y = domain.free_bit(1);
+    let differ = domain.xor(x, y)?;
+    let meet = domain.and(x, y)?;
+    domain.require(&[differ])?;
+    if both {
+        domain.require(&[meet])?;
+    }
+    Ok(domain.finish())
+}
+
+// The log without its last line.
+fn cut(alloc: Global, log: &Log) -> Result<Log, NoMemory> {
+    let mut lines = Log::new(alloc);
+    for i in 0..log.len().saturating_sub(1) {
+        let line = log.get(i);
+        lines.push(Clause::from_slice(alloc, line.as_slice())?)?;
+    }
+    Ok(lines)
+}
+
+#[test]
+fn a_refutation_passes_whole_and_not_cut(rt: HostRuntime) -> Result<(), Fail> {
+    let alloc = rt.alloc();
+    let clauses = two_bits(alloc, true)?;
+    match &solve(alloc, &clauses, 4)? {
+        Answer::Refuted { log, paths } => {
+            assert_eq!(rt; paths.len(), 1);
+            let path = paths[0].as_slice();
+            assert_eq!(rt; path, [Tern::Unknown, Tern::Unknown].as_slice());
+            assert!(rt; refutes(alloc, &clauses, log)?);
+            assert!(rt; !refutes(alloc, &clauses, &cut(alloc, log)?)?);
+        }
+        _ => assert!(rt; false, "no refutation"),
+    }
+    Ok(())
+}
+
+#[test]
+fn no_path_allowed_is_spent(rt: HostRuntime) -> Result<(), Fail> {
+    let clauses = two_bits(rt.alloc(), true)?;
+    match &solve(rt.alloc(), &clauses, 0)? {
+        Answer::Spent { paths } => assert_eq!(rt; paths.len(), 0),
+        _ => assert!(rt; false, "not spent"),
+    }
+    Ok(())
+}
+
+#[test]
+fn models_solve(rt: HostRuntime) -> Result<(), Fail> {
+    let clauses = two_bits(rt.alloc(), false)?;
+    match &solve(rt.alloc(), &clauses, 100)? {
+        Answer::Model { bits, paths: _ } => {
+            assert_eq!(rt; bits.len(), 2);
+            assert!(rt; bits.get(0) != bits.get(1));
+        }
+        _ => assert!(rt; false, "no model"),
+    }
+    Ok(())
+}
+
+// Free bits of which one has to be true.
+fn one_of_all(alloc: Global, free: u32) -> Result<Clauses, NoMemory> {
+    let mut domain = ClauseDomain::new(alloc, free)?;
+    let mut lits = Vec::new(alloc);
+    for i in 0..free {
+        lits.push(domain.free_bit(i))?;
+    }
+    domain.require(&lits)?;
+    Ok(domain.finish())
+}
+
+// How many bits of the model are true, or None where there is no model.
+fn true_bits(alloc: Global, clauses: &Clauses) -> Result<Option<usize>, NoMemory> {
+    match solve(alloc, clauses, 20_000)? {
+        Answer::Model { bits, paths: _ } => {
+            Ok(Some(bits.as_slice().iter().filter(|bit| **bit).count()))
+        }
+        _ => Ok(None),
+    }
+}
+
+#[test]
+fn one_clause_of_many_bits_has_a_model(rt: HostRuntime) -> Result<(), Fail> {
+    for free in [2_048u32, 33_792] {
+        let clauses = one_of_all(rt.alloc(), free)?;
+        match true_bits(rt.alloc(), &clauses)? {
+            Some(count) => assert!(rt; count > 0, "{free} bits"),
+            None => assert!(rt; false, "{free} bits: no model"),
+        }
+    }
+    Ok(())
+}
+
+/// Holes for the pigeons below, of which there is one more.
+const HOLES: u32 = 6;
+
+// Seven pigeons that sit alone in six holes: the free bit 6p + h is true where p sits in h.
+fn pigeons(alloc: Global) -> Result<Clauses, NoMemory> {
+    let mut domain = ClauseDomain::new(alloc, (HOLES + 1) * HOLES)?;
+    for pigeon in 0..=HOLES {
+        let mut somewhere: Vec<Lit> = Vec::new(alloc);
+        for hole in 0..HOLES {
+            let here = domain.free_bit(HOLES * pigeon + hole);
+            somewhere.push(here)?;
+            for other in 0..pigeon {
+                let there = domain.free_bit(HOLES * other + hole);
+                domain.require(&[here.opposite(), there.opposite()])?;
+            }
+        }
+        domain.require(&somewhere)?;
+    }
+    Ok(domain.finish())
+}
+
+// Whether the two paths know a place differently.
+fn are_apart(p: &[Tern], q: &[Tern]) -> bool {
+    for (a, b) in p.iter().zip(q.iter()) {
+        if matches!((a, b), (Tern::Zero, Tern::One) | (Tern::One, Tern::Zero)) {
+            return true;
+        }
+    }
+    false
+}
+
+#[test]
+fn few_paths_allowed_are_spent_and_disjoint(rt: HostRuntime) -> Result<(), Fail> {
+    let clauses = pigeons(rt.alloc())?;
+    match &solve(rt.alloc(), &clauses, 3)? {
+        Answer::Spent { paths } => {
+            assert_eq!(rt; paths.len(), 3);
+            for i in 0..paths.len() {
+                for j in 0..i {
+                    assert!(rt; are_apart(paths[i].as_slice(), paths[j].as_slice()));
+                }
+            }
+        }
+        _ => assert!(rt; false, "not spent"),
+    }
+    match &solve(rt.alloc(), &clauses, 20_000)? {
+        Answer::Refuted { log, paths } => {
+            assert_eq!(rt; paths.len(), 1);
+            assert!(rt; refutes(rt.alloc(), &clauses, log)?);
+        }
+        _ => assert!(rt; false, "not refuted"),
+    }
+    Ok(())
+}
