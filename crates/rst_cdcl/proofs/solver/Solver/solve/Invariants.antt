@@ -1,4 +1,4 @@
-use Rattle.std.proofs.Common.{◌≡◌, ◌≤◌, ◌+◌, ℕ}
+use Rattle.std.proofs.Common.{◌≡◌, ◌≤◌, ◌+◌}
 use Rattle.rst_cdcl.proofs.solver.Solver.solve.Given as goal
 
 abbrev pub invariant-loop : goal.invariant-loop
