@@ -20,6 +20,3 @@ pub use calls::{constant, size_and_sign, typed, typed_in};
 pub use scope::{Entry, Scope, SignalShape};
 pub use typed_expr::{Shape, TypedExpr, TypedNode, WidthFault};
 pub use values::{constant_word, names_signal};
-
-#[cfg(test)]
-mod tests;
