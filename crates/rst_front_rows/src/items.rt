@@ -1,16 +1,16 @@
 // Both forms of a header, and each kind of item.
 use crate::texts::{fault_of, only_module, source_of};
 use rst_parse::ParseFault;
-use rst_tree::{EdgeKind, Events, Header, Item, Module, Param};
+use rst_tree::{EdgeKind, Events, Header, Item, Module, ParamDecl};
 use std::test::Fail;
 
-// Whether a parameter is local, whether it is signed, whether it has a range, and its name.
-fn summary(param: &Param) -> (bool, bool, bool, &[u8]) {
+// Whether a declaration's parameters are local, whether they are signed, whether they have a range, and how many there are.
+fn summary(decl: &ParamDecl) -> (bool, bool, bool, usize) {
     (
-        param.local,
-        param.signed,
-        param.range.is_some(),
-        param.name.as_slice(),
+        decl.local,
+        decl.signed,
+        decl.range.is_some(),
+        decl.names.len(),
     )
 }
 
@@ -19,14 +19,10 @@ fn parameters_of_a_header(rt: HostRuntime) -> Result<(), Fail> {
     let text = "module m #(parameter signed [3:0] A = 1, B = 2, parameter C = 3)(a, b); endmodule";
     let source = source_of(rt.alloc(), text)?;
     let module = only_module(&source).ok_or("a module")?;
-    let rows = [
-        (false, true, true, b"A".as_slice()),
-        (false, true, true, b"B".as_slice()),
-        (false, false, false, b"C".as_slice()),
-    ];
+    let rows = [(false, true, true, 2), (false, false, false, 1)];
     assert_eq!(rt; module.params.len(), rows.len());
-    for (param, row) in module.params.iter().zip(rows) {
-        assert_eq!(rt; summary(param), row);
+    for (decl, row) in module.params.iter().zip(rows) {
+        assert_eq!(rt; summary(decl), row);
     }
     assert!(rt; matches!(&module.header, Header::Plain(names) if names.len() == 2));
     Ok(())
@@ -68,7 +64,14 @@ fn kind(item: &Item) -> (&'static str, usize) {
             decl.names.len(),
         ),
         Item::Net(decl) => (if decl.reg { "reg" } else { "wire" }, decl.names.len()),
-        Item::Params(params) => ("parameters", params.len()),
+        Item::Params(decl) => (
+            if decl.local {
+                "localparam"
+            } else {
+                "parameter"
+            },
+            decl.names.len(),
+        ),
         Item::Assign(assigns) => ("assign", assigns.len()),
         Item::Always(always) => ("always", event_count(&always.events)),
         Item::Instance(instance) => ("instance", instance.copies.len()),
@@ -92,8 +95,8 @@ fn items(rt: HostRuntime) -> Result<(), Fail> {
         ("output", 2),
         ("wire", 2),
         ("reg", 3),
-        ("parameters", 1),
-        ("parameters", 2),
+        ("parameter", 1),
+        ("localparam", 2),
         ("assign", 2),
         ("always", 3),
         ("always", 0),

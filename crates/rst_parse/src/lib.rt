@@ -1,7 +1,6 @@
 //! From the tokens of a text to its modules.
 #![tactic(auto)]
 
-mod copies;
 mod declarations;
 mod items;
 mod laws;

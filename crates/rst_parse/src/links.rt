@@ -9,7 +9,7 @@ ghost use Rattle.rst_read.specs.Gives.{Gives};
 ghost use Rattle.rst_parse.specs.Beside.{beside};
 
 use crate::lists::{Reader, Separator, separated};
-use crate::parts::{expression, name};
+use crate::parts::{closed, expression, name};
 use rst_grammar::{Symbol, Terminal};
 use rst_read::{Stop, after, behind};
 use rst_tree::{Copied, Expr, Instance, Link, Links};
@@ -76,7 +76,7 @@ impl Reader for LinkReader {
         let (name, rest) = name(alloc, rest)?;
         let rest = after(rest, Terminal::OpenParen)?;
         let (value, rest) = link_value(alloc, rest)?;
-        let rest = after(rest, Terminal::CloseParen)?;
+        let (value, rest) = closed(value, rest, Terminal::CloseParen)?;
         Ok((Link { name, value }, rest))
     }
 }

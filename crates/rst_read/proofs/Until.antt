@@ -6,7 +6,7 @@ use Rattle.rst_tree.specs.Statements as statements
 use Rattle.rst_grammar.specs.declared.symbol.Symbol.{Symbol}
 use Rattle.rst_grammar.specs.declared.symbol.Symbol.TheVariants as symbol
 use Rattle.rst_grammar.specs.declared.symbol.Terminal.TheVariants as terminal
-use Rattle.rst_grammar.specs.Statements.{defaults}
+use Rattle.rst_tree.specs.WellFormed.{defaults}
 use Rattle.rst_grammar.specs.Reading.{after, Readers, ◌>>=◌}
 use Rattle.rst_grammar.specs.ReadStatement.{StmtReader, until_end, arms_in, labels_in, default_colon}
 use Rattle.rst_read.specs.declared.stop.Stop.{Stop}

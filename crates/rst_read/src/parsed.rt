@@ -4,7 +4,7 @@ ghost use Rattle.std.specs.Prelude.{◌≡◌};
 ghost use Rattle.rst_tree.specs.Trees.{plain, plain_all, height, greatest};
 ghost use Rattle.rst_tree.specs.Targets.{plain_target, plain_targets, height_of_target, greatest_target};
 ghost use Rattle.rst_tree.specs.Statements.{plain_stmt, plain_stmts, plain_arm, plain_arms, no_arm, height_of, greatest_of, greatest_of_arms};
-ghost use Rattle.rst_grammar.specs.Statements.{defaults};
+ghost use Rattle.rst_tree.specs.WellFormed.{defaults};
 
 use rst_tree::{Arm, Expr, Stmt, Target};
 

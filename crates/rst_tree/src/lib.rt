@@ -13,6 +13,6 @@ pub use expr::{Expr, Target};
 pub use heights::{height, height_of};
 pub use module::{
     Always, Assign, Copied, EdgeKind, Event, Events, Header, Instance, Item, Link, Links, Module,
-    NetDecl, NetName, Param, PortDecl, Range, Source,
+    NetDecl, NetName, ParamDecl, ParamName, PortDecl, Range, Source,
 };
 pub use stmt::{Arm, CaseStmt, SetStmt, Stmt};

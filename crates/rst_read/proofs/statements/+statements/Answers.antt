@@ -1,7 +1,7 @@
 use Rattle.std.proofs.Common.{◌≡◌, ◌+◌, ◌-◌, length, subst, sym, ap, ◌∙◌, arith}
 use Rattle.std.proofs.lemmas.Result.{err_from_is_err_and}
 use Rattle.rst_tree.specs.Statements.{plain_stmt, plain_stmts, plain_arm, plain_arms, no_arm}
-use Rattle.rst_grammar.specs.Statements.{defaults}
+use Rattle.rst_tree.specs.WellFormed.{defaults}
 use Rattle.rst_grammar.specs.Reading.{readers}
 use Rattle.rst_grammar.specs.ReadStatement.{stmt_reader, until_end, arms_in}
 use Rattle.rst_read.specs.Gives.{Gives, seen_stmt}
