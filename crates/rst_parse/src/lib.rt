@@ -13,5 +13,5 @@ mod pieces;
 mod spelling;
 mod symbols;
 
-pub use laws::one_answer;
+pub use laws::{fault_place, one_answer, some_answer, well_formed};
 pub use parser::{ParseFault, parse};

@@ -1,11 +1,13 @@
 //! The modules of a whole text.
 
 ghost use Rattle.std.specs.Prelude.{◌≡◌, ◌≢◌, ◌≤◌, length, List, map, IfOk, IfErr, Ok, Err};
+ghost use Rattle.std.specs.List.{All};
 ghost use Rattle.rst_lex.specs.Lexing.{Reads};
 ghost use Rattle.rst_tree.specs.Modules.{plain_module, plain_source};
+ghost use Rattle.rst_tree.specs.WellFormed.{WellFormed};
 ghost use Rattle.rst_parse.specs.declared.parser.ParseFault.TheVariants.{NoTree, NoMemory};
 ghost use Rattle.rst_parse.specs.Pieces.{pieces};
-ghost use Rattle.rst_parse.specs.Parsing.{IsModuleOf, IsNoModule, Answer, ReadsPieces, Parses, plain_answer};
+ghost use Rattle.rst_parse.specs.Parsing.{IsModuleOf, IsNoModule, Answer, ReadsPieces, Parses, NamesToken, plain_answer};
 
 use crate::module::module;
 use crate::pieces::first_piece;
@@ -84,6 +86,10 @@ pub fn parse(alloc: Global, text: &[u8], tokens: &[Token]) -> Result<Source, Par
     requires read { Reads text.now (Ok tokens.now) }
     ensures source { IfOk result (λ source. Parses text.now tokens.now (Ok (plain_source source))) }
     ensures fault { IfErr result (λ fault. fault ≢ NoMemory → Parses text.now tokens.now (Err fault)) }
+    // The place of a fault lies among the tokens.
+    ensures place { IfErr result (NamesToken (length tokens.now)) }
+    // The grammar gives well formed modules alone.
+    ensures formed { IfOk result (λ source. All WellFormed (plain_source source)) }
     // What the tokens are parsed as is answered, unless memory runs out.
     ensures only { (answer : Answer) → Parses text.now tokens.now answer → result ≢ Err NoMemory → plain_answer result ≡ answer }
 {
