@@ -7,6 +7,7 @@
 mod expr;
 mod heights;
 mod module;
+mod same;
 mod stmt;
 
 pub use expr::{Expr, Target};
@@ -15,4 +16,5 @@ pub use module::{
     Always, Assign, Copied, EdgeKind, Event, Events, Header, Instance, Item, Link, Links, Module,
     NetDecl, NetName, ParamDecl, ParamName, PortDecl, Range, Source,
 };
+pub use same::{same_expr, same_range};
 pub use stmt::{Arm, CaseStmt, SetStmt, Stmt};
