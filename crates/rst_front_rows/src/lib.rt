@@ -1,4 +1,4 @@
-//! Tests of the front end's public calls, named by what they show: heights of trees, the readers, the parser, and widths.
+//! Tests of the front end's public calls, named by what they show: heights of trees, equal ranges, the readers, the parser, and widths.
 #![tactic(auto)]
 
 #[cfg(test)]
@@ -9,6 +9,8 @@ mod heights;
 mod items;
 #[cfg(test)]
 mod modules;
+#[cfg(test)]
+mod ranges;
 #[cfg(test)]
 mod statements;
 #[cfg(test)]

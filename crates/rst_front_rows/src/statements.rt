@@ -1,9 +1,8 @@
 // Statements, and what stands in front of other symbols.
 use rst_grammar::{NameText, Symbol, Terminal};
 use rst_lex::Literal;
-use rst_read::{
-    MOST_HEIGHT, Stop, after, behind, read_expression, read_statement, read_target, statement,
-};
+use rst_read::{MOST_HEIGHT, Stop, after, behind, read_expression};
+use rst_statement::{read_statement, read_target, statement};
 use rst_tree::{Expr, Stmt, Target};
 use rst_word::BinaryOp;
 use std::alloc::{AllocError, Global};

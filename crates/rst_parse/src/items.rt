@@ -2,11 +2,11 @@
 
 ghost use Rattle.std.specs.Prelude.{◌≡◌, List, map, Some};
 ghost use Rattle.rst_tree.specs.declared.module.Event.{Event};
-ghost use Rattle.rst_tree.specs.Modules.{PlainAssign, Port, Net, Params, plain_assign, plain_events, plain_always, plain_item};
-ghost use Rattle.rst_grammar.specs.declared.symbol.Terminal.TheVariants.{Semicolon};
-ghost use Rattle.rst_grammar.specs.ReadParts.{mapped, up_to};
+ghost use Rattle.rst_tree.specs.Modules.{PlainAssign, OneOf, Port, Net, Params, plain_assign, plain_events, plain_always, plain_item};
+ghost use Rattle.rst_grammar.specs.declared.symbol.Terminal.TheVariants.{Semicolon, CloseParen};
+ghost use Rattle.rst_grammar.specs.ReadParts.{mapped, up_to, separated};
 ghost use Rattle.rst_grammar.specs.ReadDeclarations.{port_decl_in, param_decl_in, net_decl_in};
-ghost use Rattle.rst_grammar.specs.ReadItems.{assign_in, assigns_in, edge_in, event_in, event_list_in, events_in, always_in, word_item, item_in};
+ghost use Rattle.rst_grammar.specs.ReadItems.{assign_in, assigns_in, edge_in, event_in, or_comma, event_list_in, events_in, always_in, word_item, item_in};
 ghost use Rattle.rst_read.specs.Gives.{Gives};
 ghost use Rattle.rst_parse.specs.Beside.{beside, itself};
 
@@ -100,8 +100,21 @@ impl Reader for EventReader {
     }
 }
 
+// Events up to the closing parenthesis.
+#[tactic(auto, unfolding(rst_grammar::specs::ReadParts::mapped, rst_grammar::specs::ReadParts::up_to))]
+fn listed_events<'s, 'a>(
+    alloc: Global,
+    symbols: &'s [Symbol<'a>],
+) -> Result<(Events, &'s [Symbol<'a>]), Stop>
+    ensures { Gives (beside plain_events) result (mapped OneOf (up_to CloseParen (separated or_comma event_in)) symbols.now) }
+{
+    let (events, rest) = separated(&EventReader, Separator::OrComma, alloc, symbols)?;
+    let rest = after(rest, Terminal::CloseParen)?;
+    Ok((Events::List(events), rest))
+}
+
 // What stands in the parentheses behind `@`, and the closing one.
-#[tactic(auto, unfolding(rst_grammar::specs::ReadItems::event_list_in, rst_grammar::specs::ReadParts::mapped, rst_grammar::specs::ReadParts::up_to))]
+#[tactic(auto, unfolding(rst_grammar::specs::ReadItems::event_list_in))]
 fn event_list<'s, 'a>(
     alloc: Global,
     symbols: &'s [Symbol<'a>],
@@ -113,11 +126,7 @@ fn event_list<'s, 'a>(
             let rest = after(rest, Terminal::CloseParen)?;
             Ok((Events::Any, rest))
         }
-        _ => {
-            let (events, rest) = separated(&EventReader, Separator::OrComma, alloc, symbols)?;
-            let rest = after(rest, Terminal::CloseParen)?;
-            Ok((Events::List(events), rest))
-        }
+        _ => listed_events(alloc, symbols),
     }
 }
 

@@ -2,8 +2,11 @@
 
 ghost use Rattle.std.specs.Prelude.{◌≡◌, ◌≤◌, [], map, false, Some, IfOk};
 ghost use Rattle.rst_tree.specs.Modules.{PlainParamDecl, PlainPortDecl, PlainModule, height_of_module, plain_param_decl, plain_port_decl, plain_header, plain_item, plain_module};
+ghost use Rattle.rst_tree.specs.Modules.{Plain as NamesAlone, Full};
+ghost use Rattle.rst_grammar.specs.declared.symbol.Terminal.TheVariants.{CloseParen};
 ghost use Rattle.rst_grammar.specs.Modules.{SpellsModule};
-ghost use Rattle.rst_grammar.specs.ReadDeclarations.{port_decl_in, param_decl_in};
+ghost use Rattle.rst_grammar.specs.ReadParts.{mapped, up_to, separated, comma};
+ghost use Rattle.rst_grammar.specs.ReadDeclarations.{names_in, port_decl_in, param_decl_in};
 ghost use Rattle.rst_grammar.specs.ReadModule.{groups_in, header_params_in, ports_in, header_in, items_in, module_reader};
 ghost use Rattle.rst_read.specs.Gives.{Gives};
 ghost use Rattle.rst_parse.specs.Beside.{beside};
@@ -89,8 +92,34 @@ impl Reader for PortDeclReader {
     }
 }
 
+// The names of ports up to the closing parenthesis.
+#[tactic(auto, unfolding(rst_grammar::specs::ReadParts::mapped, rst_grammar::specs::ReadParts::up_to))]
+fn port_names<'s, 'a>(
+    alloc: Global,
+    symbols: &'s [Symbol<'a>],
+) -> Result<(Header, &'s [Symbol<'a>]), Stop>
+    ensures { Gives (beside plain_header) result (mapped NamesAlone (up_to CloseParen names_in) symbols.now) }
+{
+    let (names, rest) = names(alloc, symbols)?;
+    let rest = after(rest, Terminal::CloseParen)?;
+    Ok((Header::Plain(names), rest))
+}
+
+// The declarations of ports up to the closing parenthesis.
+#[tactic(auto, unfolding(rst_grammar::specs::ReadParts::mapped, rst_grammar::specs::ReadParts::up_to))]
+fn port_decls<'s, 'a>(
+    alloc: Global,
+    symbols: &'s [Symbol<'a>],
+) -> Result<(Header, &'s [Symbol<'a>]), Stop>
+    ensures { Gives (beside plain_header) result (mapped Full (up_to CloseParen (separated comma (port_decl_in 200))) symbols.now) }
+{
+    let (ports, rest) = separated(&PortDeclReader, Separator::Comma, alloc, symbols)?;
+    let rest = after(rest, Terminal::CloseParen)?;
+    Ok((Header::Full(ports), rest))
+}
+
 // What stands in the parentheses of a header, and the closing one.
-#[tactic(auto, unfolding(rst_grammar::specs::ReadModule::ports_in, rst_grammar::specs::ReadParts::mapped, rst_grammar::specs::ReadParts::up_to))]
+#[tactic(auto, unfolding(rst_grammar::specs::ReadModule::ports_in))]
 fn ports<'s, 'a>(
     alloc: Global,
     symbols: &'s [Symbol<'a>],
@@ -101,16 +130,8 @@ fn ports<'s, 'a>(
         [Symbol::Terminal(Terminal::CloseParen), rest @ ..] => {
             Ok((Header::Plain(Vec::new(alloc)), rest))
         }
-        [Symbol::Name(_), ..] => {
-            let (names, rest) = names(alloc, symbols)?;
-            let rest = after(rest, Terminal::CloseParen)?;
-            Ok((Header::Plain(names), rest))
-        }
-        _ => {
-            let (ports, rest) = separated(&PortDeclReader, Separator::Comma, alloc, symbols)?;
-            let rest = after(rest, Terminal::CloseParen)?;
-            Ok((Header::Full(ports), rest))
-        }
+        [Symbol::Name(_), ..] => port_names(alloc, symbols),
+        _ => port_decls(alloc, symbols),
     }
 }
 

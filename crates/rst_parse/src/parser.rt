@@ -75,7 +75,8 @@ fn modules<'a>(alloc: Global, symbols: &[Symbol<'a>]) -> Result<Vec<Module>, Par
 ///
 /// The tokens are cut behind each `endmodule`, and each piece has to be a module of the grammar (IEEE 1364-2001,
 /// annex A, narrowed to the profile) with a tree of a height of at most 200. Tokens behind the last `endmodule` are
-/// a piece of their own, and an empty text has no modules.
+/// a piece of their own, and an empty text has no modules. Each module that is answered is well formed: what stands in
+/// `specs/WellFormed.antt` of `rst_tree`, the condition of calls that take modules.
 ///
 /// `Unsupported` comes exactly where a token is refused: a keyword of `REFUSED_KEYWORDS`, one of the marks `===`,
 /// `!==` and `**`, or a system token other than `$signed` and `$unsigned`. It carries the number of the first such

@@ -15,7 +15,8 @@ ghost use Rattle.rst_parse.specs.Beside.{beside, itself};
 
 use rst_grammar::{Symbol, Terminal};
 use rst_outside::Name;
-use rst_read::{MOST_HEIGHT, Stop, after, behind, read_expression, read_statement, read_target};
+use rst_read::{MOST_HEIGHT, Stop, after, behind, read_expression};
+use rst_statement::{read_statement, read_target};
 use rst_tree::{Expr, Stmt, Target};
 use std::alloc::Global;
 

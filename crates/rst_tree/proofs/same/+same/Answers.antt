@@ -46,8 +46,7 @@ same_expr-returns-then-same_expr-5 t c =
     let counts : m ≡ n =
     sym (ap (λ (x : Expr). plain x) c.deref-in-Repeat-Repeat.ensures) ∙ c.same_expr-in-Repeat-Repeat.ensures.0 c.if-same_expr-5.true ∙ ap (λ (x : Expr). plain x) c.deref-in-Repeat-Repeat-2.ensures in
     let first : plain_all c.deref-then-same_expr-5.result.now ≡ plain_all es = ap (λ (xs : List Expr). plain_all xs) c.deref-then-same_expr-5.ensures.value in
-    let second : plain_all c.deref-then-same_expr-5-2.result.now ≡ plain_all fs = ap (λ (xs : List Expr). plain_all xs) c.deref-then-same_expr-5-2.ensures.value in
-    (
+    let second : plain_all c.deref-then-same_expr-5-2.result.now ≡ plain_all fs = ap (λ (xs : List Expr). plain_all xs) c.deref-then-same_expr-5-2.ensures.value in (
       λ is. left ∙ ap (λ k. Repeat k (plain_all es)) counts ∙ ap (Repeat n) (sym first ∙ c.all_same-then-same_expr-5.ensures.0 is ∙ second) ∙ sym right,
       λ same. c.all_same-then-same_expr-5.ensures.1 (first ∙ same_parts m n (plain_all es) (plain_all fs) (sym left ∙ same ∙ right) ∙ sym second),
     )
