@@ -16,8 +16,3 @@ mod symbols;
 
 pub use laws::one_answer;
 pub use parser::{ParseFault, parse};
-
-#[cfg(test)]
-mod item_tests;
-#[cfg(test)]
-mod tests;

@@ -12,12 +12,9 @@ ghost use Rattle.rst_parse.specs.Beside.{beside, itself};
 
 use rst_grammar::{Symbol, Terminal};
 use rst_outside::Name;
-use rst_read::{Stop, behind, read_expression, read_statement, read_target};
+use rst_read::{MOST_HEIGHT, Stop, behind, read_expression, read_statement, read_target};
 use rst_tree::{Expr, Stmt, Target};
 use std::alloc::Global;
-
-// The greatest height that a tree may have.
-const MOST_HEIGHT: u8 = 200;
 
 pub(crate) fn expression<'s, 'a>(
     alloc: Global,

@@ -18,8 +18,3 @@ pub use statements::{StmtAnswer, read_statement, statement};
 pub use stop::Stop;
 pub use targets::{TargetAnswer, read_target};
 pub use terminals::{after, behind};
-
-#[cfg(test)]
-mod statement_tests;
-#[cfg(test)]
-mod tests;

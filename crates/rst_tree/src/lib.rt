@@ -16,6 +16,3 @@ pub use module::{
     NetDecl, NetName, Param, PortDecl, Range, Source,
 };
 pub use stmt::{Arm, CaseStmt, SetStmt, Stmt};
-
-#[cfg(test)]
-mod tests;

@@ -25,6 +25,3 @@ pub use names::{Unshaped, UnshapedNames};
 pub use scope::{Entry, Scope, SignalShape};
 pub use typed_expr::{Shape, TypedExpr, TypedNode, WidthFault};
 pub use values::{constant_word, names_signal};
-
-#[cfg(test)]
-mod tests;

@@ -1,5 +1,6 @@
-use crate::{Stop, expression};
+// How tightly the operators of an expression hold, and how high it may be.
 use rst_grammar::{NameText, Symbol, Terminal};
+use rst_read::{Stop, expression};
 use rst_tree::Expr;
 use rst_word::BinaryOp;
 use std::alloc::{AllocError, Global};
@@ -96,10 +97,15 @@ fn has_tree(alloc: Global, parentheses: u32) -> Result<bool, AllocError> {
 #[test]
 fn parentheses(rt: HostRuntime) -> Result<(), Fail> {
     let alloc = rt.alloc();
-    assert!(rt; has_tree(alloc, 150)?);
-    assert!(rt; has_tree(alloc, 199)?);
-    assert!(rt; !has_tree(alloc, 200)?);
-    assert!(rt; !has_tree(alloc, 300)?);
-    assert!(rt; !has_tree(alloc, 100_000)?);
+    let rows = [
+        (150, true),
+        (199, true),
+        (200, false),
+        (300, false),
+        (100_000, false),
+    ];
+    for (count, expected) in rows {
+        assert_eq!(rt; has_tree(alloc, count)?, expected, "{count}");
+    }
     Ok(())
 }

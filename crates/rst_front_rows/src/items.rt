@@ -1,5 +1,6 @@
-// Rows of the reader of modules: both forms of a header, and each kind of item.
-use crate::tests::module_of;
+// Both forms of a header, and each kind of item.
+use crate::texts::{fault_of, only_module, source_of};
+use rst_parse::ParseFault;
 use rst_tree::{EdgeKind, Events, Header, Item, Module, Param};
 use std::test::Fail;
 
@@ -16,7 +17,8 @@ fn summary(param: &Param) -> (bool, bool, bool, &[u8]) {
 #[test]
 fn parameters_of_a_header(rt: HostRuntime) -> Result<(), Fail> {
     let text = "module m #(parameter signed [3:0] A = 1, B = 2, parameter C = 3)(a, b); endmodule";
-    let module = module_of(rt.alloc(), text).ok_or("a module")?;
+    let source = source_of(rt.alloc(), text)?;
+    let module = only_module(&source).ok_or("a module")?;
     let rows = [
         (false, true, true, b"A".as_slice()),
         (false, true, true, b"B".as_slice()),
@@ -42,11 +44,12 @@ fn header_port(module: &Module, at: usize) -> Option<(bool, bool, bool, usize)> 
 #[test]
 fn declarations_in_a_header(rt: HostRuntime) -> Result<(), Fail> {
     let text = "module m(input wire [7:0] a, b, output reg q, output r); endmodule";
-    let module = module_of(rt.alloc(), text).ok_or("a module")?;
-    assert_eq!(rt; header_port(&module, 0), Some((true, false, true, 2)));
-    assert_eq!(rt; header_port(&module, 1), Some((false, true, false, 1)));
-    assert_eq!(rt; header_port(&module, 2), Some((false, false, false, 1)));
-    assert_eq!(rt; header_port(&module, 3), None);
+    let source = source_of(rt.alloc(), text)?;
+    let module = only_module(&source).ok_or("a module")?;
+    assert_eq!(rt; header_port(module, 0), Some((true, false, true, 2)));
+    assert_eq!(rt; header_port(module, 1), Some((false, true, false, 1)));
+    assert_eq!(rt; header_port(module, 2), Some((false, false, false, 1)));
+    assert_eq!(rt; header_port(module, 3), None);
     Ok(())
 }
 
@@ -82,7 +85,8 @@ fn items(rt: HostRuntime) -> Result<(), Fail> {
         always @* ; always @(*) begin end
         n #(4, 5) x(a), y(.d(b), .e()); n z();
         endmodule";
-    let module = module_of(rt.alloc(), text).ok_or("a module")?;
+    let source = source_of(rt.alloc(), text)?;
+    let module = only_module(&source).ok_or("a module")?;
     let rows = [
         ("input", 1),
         ("output", 2),
@@ -119,20 +123,21 @@ fn event_at(module: &Module, at: usize) -> Option<(EdgeKind, &[u8])> {
 #[test]
 fn events(rt: HostRuntime) -> Result<(), Fail> {
     let text = "module m; always @(posedge a or negedge b, c) ; endmodule";
-    let module = module_of(rt.alloc(), text).ok_or("a module")?;
+    let source = source_of(rt.alloc(), text)?;
+    let module = only_module(&source).ok_or("a module")?;
     assert_eq!(rt;
-        event_at(&module, 0),
+        event_at(module, 0),
         Some((EdgeKind::Rising, b"a".as_slice()))
     );
     assert_eq!(rt;
-        event_at(&module, 1),
+        event_at(module, 1),
         Some((EdgeKind::Falling, b"b".as_slice()))
     );
     assert_eq!(rt;
-        event_at(&module, 2),
+        event_at(module, 2),
         Some((EdgeKind::Level, b"c".as_slice()))
     );
-    assert_eq!(rt; event_at(&module, 3), None);
+    assert_eq!(rt; event_at(module, 3), None);
     Ok(())
 }
 
@@ -151,7 +156,8 @@ fn refused_items(rt: HostRuntime) -> Result<(), Fail> {
         "module m; n u(a, .b(c)); endmodule",
     ];
     for text in rows {
-        assert!(rt; module_of(rt.alloc(), text).is_none(), "{text}");
+        let fault = fault_of(rt.alloc(), text);
+        assert_eq!(rt; fault, Some(ParseFault::NoTree(0)), "{text}");
     }
     Ok(())
 }

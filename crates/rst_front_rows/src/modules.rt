@@ -1,47 +1,31 @@
-// Rows of the parser.
-use crate::{ParseFault, parse};
+// What the parser accepts and refuses, and the tree of a module.
+use crate::texts::{expr_of, fault_of, only_module, source_of, with_expr};
 use rst_lex::{LexFault, lex};
-use rst_tree::{Expr, Header, Item, Links, Module, Source};
+use rst_parse::ParseFault;
+use rst_tree::{Expr, Header, Item, Links, Module};
 use rst_word::BinaryOp;
 use std::alloc::{AllocError, Global};
 use std::test::Fail;
 
-// What a text with tokens is parsed as.
-fn parsed(alloc: Global, text: &[u8]) -> Option<Result<Source, ParseFault>> {
-    if text.len() > 1_048_576 {
-        return None;
-    }
-    let tokens = lex(alloc, text).ok()?;
-    Some(parse(alloc, text, &tokens))
-}
-
-fn fault_of(alloc: Global, text: &str) -> Option<ParseFault> {
-    parsed(alloc, text.as_bytes())?.err()
-}
-
-// The only module of a text.
-pub(crate) fn module_of(alloc: Global, text: &str) -> Option<Module> {
-    let mut modules = parsed(alloc, text.as_bytes())?.ok()?.modules;
-    let module = modules.pop()?;
-    if modules.is_empty() {
-        Some(module)
-    } else {
-        None
-    }
-}
-
 #[test]
 fn lexical_faults(rt: HostRuntime) -> Result<(), Fail> {
-    let number = "module e(output y);\nassign y = 8'hG; endmodule";
-    assert_eq!(rt;
-        lex(rt.alloc(), number.as_bytes()).err(),
-        Some(LexFault::BadNumber(31))
-    );
-    let wide = "module e(output y);\nassign y = 72'h0; endmodule";
-    assert_eq!(rt;
-        lex(rt.alloc(), wide.as_bytes()).err(),
-        Some(LexFault::NumberTooWide(31))
-    );
+    let rows = [
+        (
+            "module e(output y);\nassign y = 8'hG; endmodule",
+            LexFault::BadNumber(31),
+        ),
+        (
+            "module e(output y);\nassign y = 72'h0; endmodule",
+            LexFault::NumberTooWide(31),
+        ),
+    ];
+    for (text, fault) in rows {
+        assert_eq!(rt;
+            lex(rt.alloc(), text.as_bytes()).err(),
+            Some(fault),
+            "{text}"
+        );
+    }
     Ok(())
 }
 
@@ -105,21 +89,13 @@ fn operands(expr: &Expr, op: BinaryOp) -> Option<(&Expr, &Expr)> {
     }
 }
 
-// What the module's first item assigns.
-fn assigned(module: &Module) -> Option<&Expr> {
-    match module.items.first()? {
-        Item::Assign(assigns) => Some(&assigns.first()?.value),
-        _ => None,
-    }
-}
-
 #[test]
 fn tree_of_an_assign(rt: HostRuntime) -> Result<(), Fail> {
-    let text = "module m; assign y = a ^ b & c; endmodule";
-    let module = module_of(rt.alloc(), text).ok_or("a module")?;
+    let source = with_expr(rt.alloc(), "a ^ b & c")?;
+    let module = only_module(&source).ok_or("a module")?;
     assert_eq!(rt; module.name.as_slice(), b"m".as_slice());
     assert!(rt; matches!(&module.header, Header::Plain(names) if names.is_empty()));
-    let sum = assigned(&module).ok_or("an assign")?;
+    let sum = expr_of(&source).ok_or("an assign")?;
     let (left, right) = operands(sum, BinaryOp::Xor).ok_or("a sum")?;
     assert!(rt; is_name(left, b"a"));
     let (left, right) = operands(right, BinaryOp::And).ok_or("a product")?;
@@ -161,8 +137,9 @@ fn links(rt: HostRuntime) -> Result<(), Fail> {
         ("module m; n u(.x(a), .y()); endmodule", (true, 2, 1)),
     ];
     for (text, expected) in rows {
-        let module = module_of(rt.alloc(), text).ok_or("a module")?;
-        assert_eq!(rt; port_links(&module), Some(expected), "{text}");
+        let source = source_of(rt.alloc(), text)?;
+        let module = only_module(&source).ok_or("a module")?;
+        assert_eq!(rt; port_links(module), Some(expected), "{text}");
     }
     Ok(())
 }
@@ -179,12 +156,8 @@ fn modules(rt: HostRuntime) -> Result<(), Fail> {
         ),
     ];
     for (text, count) in rows {
-        let source = parsed(rt.alloc(), text.as_bytes()).ok_or("tokens")?;
-        assert_eq!(rt;
-            source.ok().ok_or("a source")?.modules.len(),
-            count,
-            "{text}"
-        );
+        let source = source_of(rt.alloc(), text)?;
+        assert_eq!(rt; source.modules.len(), count, "{text}");
     }
     Ok(())
 }
@@ -215,16 +188,33 @@ fn nested(
 #[test]
 fn depth(rt: HostRuntime) -> Result<(), Fail> {
     let alloc = rt.alloc();
-    let front = "module m; assign y = ";
-    let low = nested(alloc, front, "(", "a", ")", "; endmodule", 150)?;
-    assert!(rt; module_of(alloc, low.as_str()).is_some());
-    let high = nested(alloc, front, "(", "a", ")", "; endmodule", 300)?;
-    assert_eq!(rt; fault_of(alloc, high.as_str()), Some(ParseFault::NoTree(0)));
-    let front = "module m; always @* ";
-    let blocks = nested(alloc, front, "begin ", "; ", "end ", "endmodule", 100_000)?;
-    assert_eq!(rt;
-        fault_of(alloc, blocks.as_str()),
-        Some(ParseFault::NoTree(0))
-    );
+    let expression = "module m; assign y = ";
+    let block = "module m; always @* ";
+    let rows = [
+        (expression, "(", "a", ")", "; endmodule", 150, None),
+        (
+            expression,
+            "(",
+            "a",
+            ")",
+            "; endmodule",
+            300,
+            Some(ParseFault::NoTree(0)),
+        ),
+        (block, "begin ", "; ", "end ", "endmodule", 150, None),
+        (
+            block,
+            "begin ",
+            "; ",
+            "end ",
+            "endmodule",
+            100_000,
+            Some(ParseFault::NoTree(0)),
+        ),
+    ];
+    for (front, opening, middle, closing, last, times, fault) in rows {
+        let text = nested(alloc, front, opening, middle, closing, last, times)?;
+        assert_eq!(rt; fault_of(alloc, text.as_str()), fault, "{front} {times}");
+    }
     Ok(())
 }

@@ -1,0 +1,17 @@
+//! Tests of the front end's public calls, named by what they show: heights of trees, the readers, the parser, and widths.
+#![tactic(auto)]
+
+#[cfg(test)]
+mod expressions;
+#[cfg(test)]
+mod heights;
+#[cfg(test)]
+mod items;
+#[cfg(test)]
+mod modules;
+#[cfg(test)]
+mod statements;
+#[cfg(test)]
+mod texts;
+#[cfg(test)]
+mod widths;
