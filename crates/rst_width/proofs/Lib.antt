@@ -13,5 +13,6 @@ pub mod SizingCuts
 pub mod SizingFits
 pub mod TableRows
 pub mod TargetSizing
+pub mod ValueWords
 pub mod Walks
 pub mod Words

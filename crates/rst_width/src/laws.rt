@@ -86,6 +86,12 @@ pub fn answers_fit()
     ensures placed_inside { (widths : ℕ → ℕ) (names : Names) → AreMeanings names → HaveWidths widths names → (e : Tree) (context : Shape) (t : Typed) → placed_answer names e context ≡ Ok t → ReadsInside widths t }
 {}
 
+/// Where each signal has a number of its width, the value of a typed expression is a word. (Its width and sign are those of the
+/// expression's root, as the value's definition says.)
+pub fn values_are_words()
+    ensures { (widths : ℕ → ℕ) (signals : Valuation) → ((i : ℕ) → signals i < 2 ^ widths i) → (e : Typed) → IsFit e → ReadsInside widths e → IsWord (value signals e) }
+{}
+
 /// An expression that names no signal has one value, whatever the signals are.
 pub fn one_value()
     ensures { (signals : Valuation) (e : Typed) → names_signal e ≡ false → value signals e ≡ constant_word e }
