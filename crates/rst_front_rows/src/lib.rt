@@ -16,4 +16,6 @@ mod statements;
 #[cfg(test)]
 mod texts;
 #[cfg(test)]
+mod width_contexts;
+#[cfg(test)]
 mod widths;

@@ -36,7 +36,7 @@ fn vector(width: u8, low: u32, signed: bool) -> SignalShape
 }
 
 // `reg [3:0] a` is signal 0, `reg signed [9:2] b` signal 1, `reg [1:0] i` signal 2 and `reg c` signal 3; the parameter `P` is -1.
-fn scope(alloc: Global) -> Result<Scope, Fail> {
+pub(crate) fn scope(alloc: Global) -> Result<Scope, Fail> {
     let scalar = SignalShape {
         width: 1,
         low: 0,
@@ -106,7 +106,7 @@ fn words_of_constants(rt: HostRuntime) -> Result<(), Fail> {
     Ok(())
 }
 
-fn name_of(fault: WidthFault) -> &'static str {
+pub(crate) fn name_of(fault: WidthFault) -> &'static str {
     match fault {
         WidthFault::NoName(_) => "NoName",
         WidthFault::TooWide => "TooWide",
