@@ -33,35 +33,31 @@ pub(crate) fn long_text(alloc: Global, count: u32) -> Result<Vec<u8>, NoMemory> 
     Ok(text)
 }
 
-/// Saves a text under a name, in pieces of so many bytes.
+/// Saves a text under a name, in pieces of so many bytes, and of one at least.
 pub(crate) fn save_in_pieces<K: Desk>(
     desk: &mut K,
     name: &str,
     text: &[u8],
     size: usize,
-) -> Result<(), Failed>
-    requires { 0 < size }
-{
+) -> Result<(), Failed> {
     let mut first = true;
-    for piece in text.chunks(size) {
+    for piece in text.chunks(size.max(1)) {
         desk.save_piece(name, first, piece)?;
         first = false;
     }
     Ok(())
 }
 
-/// Reads what stands under a name to its end, in pieces of at most so many bytes.
+/// Reads what stands under a name to its end, in pieces of at most so many bytes: 1 to 65,536.
 pub(crate) fn read_in_pieces<K: Desk>(
     alloc: Global,
     desk: &mut K,
     name: &str,
     size: usize,
-) -> Result<Vec<u8>, Failed>
-    requires some { 0 < size }
-    requires at_most { size ≤ 65536 }
-{
+) -> Result<Vec<u8>, Failed> {
     let mut text = Vec::new(alloc);
     let mut piece = [0u8; 65536];
+    let size = size.max(1).min(65_536);
     for _ in 0..u64::MAX {
         let count = desk.load_piece(name, text.len() as u64, &mut piece[..size])?;
         if count == 0 {

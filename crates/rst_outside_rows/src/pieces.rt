@@ -26,67 +26,74 @@ fn reads_back_what_was_saved_in_pieces(rt: HostRuntime) -> Result<(), Fail> {
     Ok(())
 }
 
+/// Whether a piece is the first, the piece, whether it is saved, and what stands there then.
+type Step = (bool, &'static [u8], bool, &'static [u8]);
+
+// Steps on the file `abc` with room for 8 bytes more.
+const STEPS: [Step; 5] = [
+    (false, b"de", true, b"abcde"),
+    (false, b"", true, b"abcde"),
+    (true, b"xyz", true, b"xyz"),
+    (false, b"1234", false, b"xyz"),
+    (false, b"123", true, b"xyz123"),
+];
+
 #[test]
 fn a_piece_goes_behind_what_stands_there(rt: HostRuntime) -> Result<(), Fail> {
     let alloc = rt.alloc();
     let mut desk = MemoryDesk::new(alloc, two_files(alloc)?, Vec::new(alloc));
-    assert_eq!(rt;
-        desk.save_piece("a", false, b""),
-        Err(Failed),
-        "no room was made"
-    );
     desk.reserve("a", 8)?;
-    assert_eq!(rt; desk.file("a"), Some(b"abc".as_slice()));
-    assert_eq!(rt; desk.save_piece("a", false, b"de"), Ok(()));
-    assert_eq!(rt; desk.file("a"), Some(b"abcde".as_slice()));
-    assert_eq!(rt; desk.save_piece("a", true, b"xyz"), Ok(()));
-    assert_eq!(rt; desk.file("a"), Some(b"xyz".as_slice()));
-    assert_eq!(rt;
-        desk.save_piece("a", false, b"1234"),
-        Err(Failed),
-        "three bytes are left"
-    );
-    assert_eq!(rt;
-        desk.save_piece("b", true, b""),
-        Err(Failed),
-        "the room is for a"
-    );
-    assert_eq!(rt; desk.file("a"), Some(b"xyz".as_slice()));
-
-    // Room for another name leaves the files, and takes the room of the first.
-    desk.reserve("c", 2)?;
-    assert_eq!(rt; desk.file("a"), Some(b"xyz".as_slice()));
-    assert_eq!(rt; desk.file("c"), None);
-    assert_eq!(rt; desk.save_piece("a", false, b"1"), Err(Failed));
-    assert_eq!(rt; desk.save_piece("c", false, b"12"), Ok(()));
-    assert_eq!(rt; desk.file("c"), Some(b"12".as_slice()));
-    assert_eq!(rt; desk.file("b"), Some(b"".as_slice()));
+    for (first, piece, saved, bytes) in STEPS {
+        let ok = desk.save_piece("a", first, piece).is_ok();
+        assert_eq!(rt; ok, saved);
+        assert_eq!(rt; desk.file("a"), Some(bytes));
+    }
     Ok(())
 }
 
-/// A place, the bytes of `into`, and what of `abc` stands in it then.
-type PieceRow = (u64, usize, &'static [u8]);
+#[test]
+fn there_is_room_for_one_name(rt: HostRuntime) -> Result<(), Fail> {
+    let alloc = rt.alloc();
+    let mut desk = MemoryDesk::new(alloc, two_files(alloc)?, Vec::new(alloc));
+    assert!(rt; desk.save_piece("a", false, b"").is_err());
+    desk.reserve("a", 8)?;
+    assert!(rt; desk.save_piece("a", true, b"xyz").is_ok());
+    desk.reserve("c", 2)?;
+    assert!(rt; desk.save_piece("a", false, b"1").is_err());
+    assert!(rt; desk.save_piece("c", false, b"12").is_ok());
+    assert_eq!(rt; desk.file("a"), Some(b"xyz".as_slice()));
+    assert_eq!(rt; desk.file("c"), Some(b"12".as_slice()));
+    Ok(())
+}
 
-const PIECE_ROWS: [PieceRow; 6] = [
-    (0, 2, b"ab"),
-    (0, 9, b"abc"),
-    (2, 9, b"c"),
-    (3, 9, b""),
-    (4, 1, b""),
-    (u64::MAX, 9, b""),
-];
+// Whether a piece of at most nine bytes of the file, from a place on, is this.
+fn gives<K: Desk>(desk: &mut K, name: &str, from: u64, bytes: &[u8]) -> bool {
+    let mut into = [0u8; 9];
+    match desk.load_piece(name, from, &mut into) {
+        Ok(count) => &into[..count as usize] == bytes,
+        Err(Failed) => false,
+    }
+}
 
 #[test]
 fn a_piece_ends_with_the_file(rt: HostRuntime) -> Result<(), Fail> {
     let alloc = rt.alloc();
     let mut desk = SureDesk::new(alloc, two_files(alloc)?);
-    for (from, size, bytes) in PIECE_ROWS {
-        let mut into = [0u8; 9];
-        let count = desk.load_piece("a", from, &mut into[..size])?;
-        assert_eq!(rt; &into[..count as usize], bytes, "{from}");
-    }
-    let mut into = [0u8; 9];
-    assert_eq!(rt; desk.load_piece("b", 0, &mut into), Ok(0));
-    assert_eq!(rt; desk.load_piece("no", 0, &mut into), Err(Failed));
+    assert!(rt; gives(&mut desk, "a", 0, b"abc"));
+    assert!(rt; gives(&mut desk, "a", 2, b"c"));
+    assert!(rt; gives(&mut desk, "a", 3, b""));
+    assert!(rt; gives(&mut desk, "a", u64::MAX, b""));
+    assert!(rt; gives(&mut desk, "b", 0, b""));
+    assert!(rt; !gives(&mut desk, "no", 0, b""));
+    Ok(())
+}
+
+#[test]
+fn a_piece_ends_with_its_room(rt: HostRuntime) -> Result<(), Fail> {
+    let alloc = rt.alloc();
+    let mut desk = SureDesk::new(alloc, two_files(alloc)?);
+    let mut into = [0u8; 2];
+    assert_eq!(rt; desk.load_piece("a", 0, &mut into), Ok(2));
+    assert_eq!(rt; into.as_slice(), b"ab".as_slice());
     Ok(())
 }
