@@ -1,4 +1,4 @@
-//! Tests of the front end's public calls, named by what they show: heights of trees, the readers, the parser, and widths.
+//! Tests of the front end's public calls, named by what they show: tokens, heights of trees, the readers, the parser, and widths.
 #![tactic(auto)]
 
 #[cfg(test)]
@@ -13,5 +13,7 @@ mod modules;
 mod statements;
 #[cfg(test)]
 mod texts;
+#[cfg(test)]
+mod tokens;
 #[cfg(test)]
 mod widths;
