@@ -1,4 +1,5 @@
-//! Tests of the front end's public calls, named by what they show: heights of trees, equal ranges, the readers, the parser, and widths.
+//! Tests of the front end's public calls, named by what they show: tokens, heights of trees, equal ranges, the readers, the parser,
+//! and widths.
 #![tactic(auto)]
 
 #[cfg(test)]
@@ -15,6 +16,8 @@ mod ranges;
 mod statements;
 #[cfg(test)]
 mod texts;
+#[cfg(test)]
+mod tokens;
 #[cfg(test)]
 mod width_contexts;
 #[cfg(test)]

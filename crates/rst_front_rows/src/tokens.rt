@@ -1,5 +1,5 @@
-// Rows of the lexical rules.
-use crate::*;
+// Tokens of texts, and the texts that have none.
+use rst_lex::{LexFault, Literal, TokenKind, is_keyword, is_name, lex, lex_small, line_of};
 use std::test::Fail;
 
 // Width, sign, value and mask of a number, or zeros for any other token.
@@ -80,4 +80,70 @@ fn counts(rt: HostRuntime) -> Result<(), Fail> {
         assert_eq!(rt; tokens.len(), count, "{text}");
     }
     Ok(())
+}
+
+#[test]
+fn tokens_of_the_small_form(rt: HostRuntime) -> Result<(), Fail> {
+    let bit = Literal {
+        width: 1,
+        signed: false,
+        value: 0,
+        mask: 0,
+    };
+    let found = lex_small(rt.alloc(), b"q <=\t1'b0;\n")
+        .ok()
+        .flatten()
+        .ok_or("tokens")?;
+    let kinds = [
+        TokenKind::Name,
+        TokenKind::Mark,
+        TokenKind::Number(bit),
+        TokenKind::Mark,
+    ];
+    let spans = [(0, 1), (2, 4), (5, 9), (9, 10)];
+    assert_eq!(rt; found.len(), 4);
+    for i in 0..4 {
+        let token = found[i];
+        assert!(rt; token.kind == kinds[i]);
+        assert_eq!(rt; (token.start, token.end), spans[i]);
+    }
+    Ok(())
+}
+
+#[test]
+fn texts_of_no_small_form(rt: HostRuntime) -> Result<(), Fail> {
+    let texts = [
+        "a < b", "a <<= b", "1'b01", "1'b0_", "1'b0?", "1 'b0", "a1'b0", "~^", "and", "wire",
+        "a//b", "a\r", "2", "1'B0",
+    ];
+    for text in texts {
+        let found = lex_small(rt.alloc(), text.as_bytes()).ok().ok_or("memory")?;
+        assert!(rt; found.is_none(), "{text}");
+    }
+    Ok(())
+}
+
+#[test]
+fn words(rt: HostRuntime) {
+    let rows = [
+        ("module", false, true),
+        ("xnor", false, true),
+        ("Module", true, false),
+        ("_a$1", true, false),
+        ("1a", false, false),
+        ("", false, false),
+    ];
+    for (text, name, keyword) in rows {
+        assert_eq!(rt; is_name(text.as_bytes()), name, "{text}");
+        assert_eq!(rt; is_keyword(text.as_bytes()), keyword, "{text}");
+    }
+}
+
+#[test]
+fn lines(rt: HostRuntime) {
+    let text = b"a\n\nb";
+    let rows = [(0, 1), (1, 1), (2, 2), (3, 3), (4, 3)];
+    for (at, line) in rows {
+        assert_eq!(rt; line_of(text, at), line);
+    }
 }
