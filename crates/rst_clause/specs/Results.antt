@@ -4,6 +4,11 @@ use Rattle.rst_value.specs.Domains.{Named}
 use Rattle.rst_clause.specs.Literals.{opposite}
 use Rattle.rst_clause.specs.Operations.{and_clauses, xor_clauses, mux_clauses}
 
+-- what no gate changes: how many bits are free, and what is asked of them
+pub record Aside : Type 0 where
+  pub free : ℕ
+  pub required : List (List ℤ)
+
 -- the largest variable of the clauses
 abbrev pub largest_in : List ℤ → ℕ
 largest_in [] = 0

@@ -2,7 +2,7 @@ ghost use Rattle.std.specs.Prelude.{◌≡◌, ℕ, suc, ◌+◌, ◌-◌, ◌^�
 ghost use Rattle.rst_clause.specs.Literals.{AreLiterals, IsLiteral};
 ghost use Rattle.rst_clause.specs.Operations.{denies_next};
 ghost use Rattle.rst_clause.specs.Standing.{StandsUnder};
-ghost use Rattle.rst_clause.specs.Results.{clause_results};
+ghost use Rattle.rst_clause.specs.Results.{Aside, clause_results};
 
 use crate::gate_clauses::{of_and, of_mux, of_xor};
 use crate::{ClauseStore, Clauses, Lit};
@@ -13,8 +13,9 @@ use std::alloc::Global;
 /// Literals as a domain: a gate takes the next variable and adds the clauses that define it
 /// (Tseitin's encoding). A world is a choice of the free bits.
 ///
-/// Its content is the list of the fixed clauses. After NoMemory every literal stands for what it
-/// stood for.
+/// Its content is the list of the fixed clauses. It keeps aside how many bits are free, and the
+/// required clauses: no gate changes them. After NoMemory every literal stands for what it stood
+/// for.
 #[derive(Debug, Drop)]
 pub struct ClauseDomain {
     alloc: Global,
@@ -80,6 +81,10 @@ impl Domain for ClauseDomain {
     ghost stands = { λ d world l bit. StandsUnder d.clauses.free d.clauses.fixed world l bit };
 
     ghost content = { λ d. d.clauses.fixed };
+
+    ghost Aside = { Aside };
+
+    ghost aside = { λ d. record { free = d.clauses.free; required = d.clauses.required } };
 
     ghost named = { clause_results };
 

@@ -4,7 +4,7 @@ ghost use Rattle.std.specs.Prelude.{◌≤◌, length};
 use indexmap::IndexMap;
 use rst_lex::lex;
 use rst_parse::parse;
-use rst_tree::{Item, Param, Source};
+use rst_tree::{Item, ParamName, Source};
 use rst_width::{Scope, WidthFault, constant};
 use std::alloc::Global;
 use std::rt::Files;
@@ -62,7 +62,7 @@ fn name_of(fault: &WidthFault) -> &'static str {
 }
 
 // Prints width, sign and value of a parameter's value in a context of this width, or its fault.
-fn print_constant<R: Print + AllocGlobal>(rt: &R, param: &Param, context: u8) -> io::Result<()>
+fn print_constant<R: Print + AllocGlobal>(rt: &R, param: &ParamName, context: u8) -> io::Result<()>
     requires { context ≤ 64 }
 {
     let alloc = rt.alloc();
@@ -76,9 +76,9 @@ fn print_constant<R: Print + AllocGlobal>(rt: &R, param: &Param, context: u8) ->
 }
 
 // The first parameter of the first module's first item.
-fn first_param(source: &Source) -> Option<&Param> {
+fn first_param(source: &Source) -> Option<&ParamName> {
     match source.modules.first()?.items.first()? {
-        Item::Params(params) => params.first(),
+        Item::Params(decl) => decl.names.first(),
         _ => None,
     }
 }

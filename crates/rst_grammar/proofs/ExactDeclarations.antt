@@ -1,16 +1,16 @@
 -- The readers of declarations are exact.
-use Rattle.std.proofs.Common.{◌≡◌, ℕ, ◌≤◌, Bool, true, false, List, [], ◌∷◌, ◌++◌, map, Option, Some, None, refl, sym, ap, subst, arith}
+use Rattle.std.proofs.Common.{◌≡◌, ℕ, ◌≤◌, Bool, true, false, List, [], ◌∷◌, ◌++◌, Option, Some, None, refl, sym, ap, subst, arith}
 use Rattle.rst_tree.specs.Trees.{Tree, Text, height}
-use Rattle.rst_tree.specs.Modules.{PlainRange, PlainParam, PlainNetName, tallest, height_if, height_of_range, height_of_port_decl, height_of_param, height_of_net_name, height_of_net_decl}
+use Rattle.rst_tree.specs.Modules.{PlainRange, PlainParamName, PlainNetName, tallest, height_if, height_of_range, height_of_port_decl, height_of_param_name, height_of_param_decl, height_of_net_name, height_of_net_decl}
 use Rattle.rst_grammar.specs.declared.symbol.Terminal.TheVariants as terminal
 use Rattle.rst_grammar.specs.declared.symbol.Symbol.{Symbol}
 use Rattle.rst_grammar.specs.declared.symbol.Symbol.TheVariants as symbol
 use Rattle.rst_grammar.specs.Says.{Nothing, ◌⊗◌, quoted, named}
 use Rattle.rst_grammar.specs.Expressions.{Spells}
 use Rattle.rst_grammar.specs.Productions.{Optional, Flag, Listed}
-use Rattle.rst_grammar.specs.Declarations.{SpellsRange, direction, MayBeWire, no_kind, wire, SpellsKind, SpellsPortDecl, Setting, SpellsSetting, parameter_word, param_of, SpellsParams, net_word, SpellsNetValue, SpellsNetName, SpellsNetDecl}
+use Rattle.rst_grammar.specs.Declarations.{SpellsRange, direction, MayBeWire, no_kind, wire, SpellsKind, SpellsPortDecl, SpellsParamName, parameter_word, SpellsParamDecl, net_word, SpellsNetValue, SpellsNetName, SpellsNetDecl}
 use Rattle.rst_grammar.specs.ReadParts.{ReaderOf, name_in, mapped, both, up_to, optional, flag, separated, comma, comma_before_name}
-use Rattle.rst_grammar.specs.ReadDeclarations.{expr_in, range_of, range_in, direction_in, kind_in, names_in, port_decl_of, port_decl_in, setting_of, setting_in, settings_in, params_of, params_in, net_value_in, net_name_of, net_name_in, net_names_in, net_decl_of, net_decl_in}
+use Rattle.rst_grammar.specs.ReadDeclarations.{expr_in, range_of, range_in, direction_in, kind_in, names_in, port_decl_of, port_decl_in, param_name_of, param_name_in, param_names_in, param_decl_of, param_decl_in, net_value_in, net_name_of, net_name_in, net_names_in, net_decl_of, net_decl_in}
 use Rattle.rst_grammar.proofs.Fronts.{Front, one_is, one_front, nothing_is, nothing_front}
 use Rattle.rst_grammar.proofs.Tools.{Follows, colon_follows, close_bracket_follows, comma_follows, semicolon_follows}
 use Rattle.rst_grammar.proofs.Takes.{full_takes}
@@ -155,67 +155,54 @@ module _ (limit : ℕ) where
 
 -- ---- parameters
 
-setting_begins : (limit : ℕ) (ts : List Symbol) (y : Setting × List Symbol) → setting_in limit ts ≡ Some y → (n : List ℕ) × (rest : List Symbol) × (ts ≡ symbol.Name n ∷ rest)
-unfolding setting_in
-setting_begins limit ts y r =
-    let a = mapped_reads setting_of _ ts y r in
+param_name_begins : (limit : ℕ) (ts : List Symbol) (y : PlainParamName × List Symbol) → param_name_in limit ts ≡ Some y → (n : List ℕ) × (rest : List Symbol) × (ts ≡ symbol.Name n ∷ rest)
+unfolding param_name_in
+param_name_begins limit ts y r =
+    let a = mapped_reads param_name_of _ ts y r in
     let b = both_reads _ _ ts a.0 a.1 in
     name_is ts b.0 b.1
 
-setting_exact : (limit : ℕ) → IsExact SpellsSetting (λ s. height s.value) limit (setting_in limit) (Follows 0)
-unfolding setting_in
-setting_exact limit =
+param_name_exact : (limit : ℕ) → IsExact SpellsParamName height_of_param_name limit (param_name_in limit) (Follows 0)
+unfolding param_name_in
+param_name_exact limit =
     let two = both_exact (name_exact limit) (behind_exact terminal.Equal (expr_exact limit)) (λ ts y r. tt) in
-    mapped_exact setting_of two (λ x ts p small. (p, omega (arith, small))) (λ s ts p small. ((s.name, s.value), refl, p, omega (arith, small)))
+    mapped_exact param_name_of two (λ x ts p small. (p, omega (arith, small))) (λ n ts p small. ((n.name, n.value), refl, p, omega (arith, small)))
 
-abbrev pub EndsSettings : List Symbol → Type 0
-EndsSettings ts = Follows 0 ts × (comma_before_name ts ≡ None)
+abbrev pub EndsParams : List Symbol → Type 0
+EndsParams ts = Follows 0 ts × (comma_before_name ts ≡ None)
 
-settings_exact : (limit : ℕ) → IsExact (Listed SpellsSetting) (tallest (λ s. height s.value)) limit (settings_in limit) EndsSettings
-unfolding settings_in
-settings_exact limit = separated_exact (setting_exact limit) (name_separator (setting_begins limit) (λ rest. comma_follows 0))
+param_names_exact : (limit : ℕ) → IsExact (Listed SpellsParamName) (tallest height_of_param_name) limit (param_names_in limit) EndsParams
+unfolding param_names_in
+param_names_exact limit = separated_exact (param_name_exact limit) (name_separator (param_name_begins limit) (λ rest. comma_follows 0))
 
--- the height of parameters is that of their range and values
-params_low : (limit : ℕ) (local signed : Bool) (range : Option PlainRange) (settings : List Setting) → height_if height_of_range range ≤ limit → tallest (λ s. height s.value) settings ≤ limit
-    → tallest height_of_param (map (param_of local signed range) settings) ≤ limit
-params_low limit local signed range [] r small = omega arith
-params_low limit local signed range (s ∷ settings) r small = omega (arith, r, small, params_low limit local signed range settings r (omega (arith, small)))
-
-settings_low : (limit : ℕ) (local signed : Bool) (range : Option PlainRange) (settings : List Setting) → tallest height_of_param (map (param_of local signed range) settings) ≤ limit → tallest (λ s. height s.value) settings ≤ limit
-settings_low limit local signed range [] small = omega arith
-settings_low limit local signed range (s ∷ settings) small = omega (arith, small, settings_low limit local signed range settings (omega (arith, small)))
-
-range_low : (limit : ℕ) (local signed : Bool) (range : Option PlainRange) (settings : List Setting) (ts : List Symbol) → Listed SpellsSetting settings ts → tallest height_of_param (map (param_of local signed range) settings) ≤ limit
-    → height_if height_of_range range ≤ limit
-range_low limit local signed range [] ts says small = absurd says
-range_low limit local signed range (s ∷ settings) ts says small = omega (arith, small)
-
-module _ (limit : ℕ) where
+module _ (local : Bool) (limit : ℕ) where
   abbrev ParamsEnd : Type 0
-  ParamsEnd = Option PlainRange × List Setting
+  ParamsEnd = Option PlainRange × List PlainParamName
 
   abbrev params_end_in : ReaderOf ParamsEnd
-  params_end_in = both (optional terminal.OpenBracket (range_in limit)) (settings_in limit)
+  params_end_in = both (optional terminal.OpenBracket (range_in limit)) (param_names_in limit)
 
-  range_before_settings : (ts : List Symbol) (y : List Setting × List Symbol) → settings_in limit ts ≡ Some y → MayFollowRange ts
-  unfolding settings_in setting_in separated mapped both name_in
-  range_before_settings ts y r = (tt, without terminal.OpenBracket (settings_in limit) (λ rest. refl) ts y r)
+  range_before_params : (ts : List Symbol) (y : List PlainParamName × List Symbol) → param_names_in limit ts ≡ Some y → MayFollowRange ts
+  unfolding param_names_in param_name_in separated mapped both name_in
+  range_before_params ts y r = (tt, without terminal.OpenBracket (param_names_in limit) (λ rest. refl) ts y r)
 
-  sign_before_settings : (ts : List Symbol) (y : ParamsEnd × List Symbol) → params_end_in ts ≡ Some y → Without terminal.Signed ts
-  unfolding both optional settings_in setting_in separated mapped name_in
-  sign_before_settings ts y r = without terminal.Signed params_end_in (λ rest. refl) ts y r
+  sign_before_params : (ts : List Symbol) (y : ParamsEnd × List Symbol) → params_end_in ts ≡ Some y → Without terminal.Signed ts
+  unfolding both optional param_names_in param_name_in separated mapped name_in
+  sign_before_params ts y r = without terminal.Signed params_end_in (λ rest. refl) ts y r
 
-  pub params_exact : (local : Bool) → IsExact (SpellsParams local) (tallest height_of_param) limit (params_in local limit) EndsSettings
-  unfolding params_in
-  params_exact local =
-      let ends = both_exact (range_option_exact limit) (settings_exact limit) range_before_settings in
-      let signed = both_exact (flag_exact terminal.Signed limit) ends sign_before_settings in
+  pub param_decl_exact : IsExact (λ d ts. (d.local ≡ local) × SpellsParamDecl d ts) height_of_param_decl limit (param_decl_in local limit) EndsParams
+  unfolding param_decl_in
+  param_decl_exact =
+      let ends = both_exact (range_option_exact limit) (param_names_exact limit) range_before_params in
+      let signed = both_exact (flag_exact terminal.Signed limit) ends sign_before_params in
       let all = behind_exact (parameter_word local) signed in
-      mapped_exact (params_of local) all
-      (λ x ts p small. (record { signed = x.0; range = x.1.0; settings = x.1.1; all = refl; spelled = p }, params_low limit local x.0 x.1.0 x.1.1 (omega (arith, small)) (omega (arith, small))))
-      (λ ps ts p small.
-      let low : tallest height_of_param (map (param_of local p.signed p.range) p.settings) ≤ limit = subst (λ (qs : List PlainParam). tallest height_of_param qs ≤ limit) p.all small in
-      ((p.signed, (p.range, p.settings)), sym p.all, p.spelled, omega (arith, range_low limit local p.signed p.range p.settings p.spelled.right.right.second p.spelled.right.right.right low, settings_low limit local p.signed p.range p.settings low)))
+      mapped_exact (param_decl_of local) all (λ x ts p small. ((refl, p), omega (arith, small)))
+      (λ d ts p small. (
+        (d.signed, (d.range, d.names)),
+        ap (λ b. param_decl_of b (d.signed, (d.range, d.names))) (sym p.0),
+        subst (λ b. (quoted (parameter_word b) ⊗ Flag terminal.Signed d.signed ⊗ Optional SpellsRange d.range ⊗ Listed SpellsParamName d.names) ts) p.0 p.1,
+        omega (arith, small),
+      ))
 
 -- ---- nets
 

@@ -6,7 +6,7 @@ use Rattle.rst_tree.specs.Statements.{height_of}
 use Rattle.rst_tree.specs.declared.module.Event.{Event}
 use Rattle.rst_tree.specs.declared.module.EdgeKind.{EdgeKind}
 use Rattle.rst_tree.specs.declared.module.EdgeKind.TheVariants as edge
-use Rattle.rst_tree.specs.Modules.{PlainEvents, Any, OneOf, PlainAlways, PlainItem, Port, Net, Params, Assigns, AlwaysBlock, Instances, tallest, height_of_port_decl, height_of_param, height_of_assign, height_of_item}
+use Rattle.rst_tree.specs.Modules.{PlainEvents, Any, OneOf, PlainAlways, PlainParamDecl, PlainItem, Port, Net, Params, Assigns, AlwaysBlock, Instances, tallest, height_of_port_decl, height_of_param_decl, height_of_assign, height_of_item}
 use Rattle.rst_grammar.specs.declared.symbol.Terminal.{Terminal}
 use Rattle.rst_grammar.specs.declared.symbol.Terminal.TheVariants as terminal
 use Rattle.rst_grammar.specs.declared.symbol.Symbol.{Symbol}
@@ -15,14 +15,14 @@ use Rattle.rst_grammar.specs.Says.{Nothing, ◌⊗◌, quoted, named}
 use Rattle.rst_grammar.specs.Targets.{SpellsTarget}
 use Rattle.rst_grammar.specs.Statements.{SpellsStmt}
 use Rattle.rst_grammar.specs.Productions.{Optional, Flag, Separated, Listed}
-use Rattle.rst_grammar.specs.Declarations.{SpellsRange, direction, SpellsKind, SpellsPortDecl, parameter_word, SpellsParams, SpellsSetting, net_word, SpellsNetName, SpellsNetDecl}
+use Rattle.rst_grammar.specs.Declarations.{SpellsRange, direction, SpellsKind, SpellsPortDecl, parameter_word, SpellsParamDecl, SpellsParamName, net_word, SpellsNetName, SpellsNetDecl}
 use Rattle.rst_grammar.specs.Links.{SpellsParamLinks, SpellsCopied, SpellsInstance}
 use Rattle.rst_grammar.specs.Items.{SpellsAssign, SpellsEdge, SpellsEvent, OrComma, or, comma, SpellsAny, star, star_inside, SpellsControl, SpellsEvents, SpellsItem}
 use Rattle.rst_grammar.specs.Reading.{◌>>=◌, after}
 use Rattle.rst_grammar.specs.ReadStatement.{target_reader, stmt_reader}
 use Rattle.rst_grammar.specs.ReadParts.{ReaderOf, name_in, mapped, both, behind, up_to, separated, comma_before_name}
 use Rattle.rst_grammar.specs.ReadParts as parts
-use Rattle.rst_grammar.specs.ReadDeclarations.{port_decl_in, params_in, net_decl_in}
+use Rattle.rst_grammar.specs.ReadDeclarations.{port_decl_in, param_decl_in, net_decl_in}
 use Rattle.rst_grammar.specs.ReadItems.{instance_in, assign_of, assign_in, assigns_in, edge_in, event_of, event_in, or_comma, event_list_in, events_in, always_of, always_in, word_item, item_in}
 use Rattle.rst_grammar.proofs.Fronts.{Front, split, joined, one_is, one_front, nothing_is, nothing_front}
 use Rattle.rst_grammar.proofs.Tools.{bind_some, Follows, comma_follows, semicolon_follows}
@@ -33,7 +33,7 @@ use Rattle.rst_grammar.proofs.SoundTargets.{target_sound}
 use Rattle.rst_grammar.proofs.SoundStatements.{stmt_sound}
 use Rattle.rst_grammar.proofs.Exact.{IsExact, Anything, Without, without, is_after, no_result, before_behind, name_exact, behind_exact, up_to_exact, both_exact, mapped_exact}
 use Rattle.rst_grammar.proofs.ExactLists.{IsSeparator, separated_exact, comma_separator, quoted_shorter}
-use Rattle.rst_grammar.proofs.ExactDeclarations.{expr_exact, port_decl_exact, params_exact, net_decl_exact}
+use Rattle.rst_grammar.proofs.ExactDeclarations.{expr_exact, port_decl_exact, param_decl_exact, net_decl_exact}
 use Rattle.rst_grammar.proofs.ExactLinks.{instance_exact}
 
 -- ---- assigns
@@ -237,9 +237,16 @@ module _ (limit : ℕ) where
   unfolding comma_before_name
   port_item_exact = up_to_exact terminal.Semicolon (λ rest. (tt, refl)) (port_decl_exact limit)
 
-  params_item_exact : (local : Bool) → IsExact (λ ps. SpellsParams local ps ⊗ quoted terminal.Semicolon) (tallest height_of_param) limit (up_to terminal.Semicolon (params_in local limit)) Anything
+  -- a declaration of parameters, local or not
+  abbrev LocalDecl : Bool → PlainParamDecl → List Symbol → Type 0
+  LocalDecl local d ts = (d.local ≡ local) × SpellsParamDecl d ts
+
+  params_item_exact : (local : Bool) → IsExact (λ d. LocalDecl local d ⊗ quoted terminal.Semicolon) height_of_param_decl limit (up_to terminal.Semicolon (param_decl_in local limit)) Anything
   unfolding comma_before_name
-  params_item_exact local = up_to_exact terminal.Semicolon (λ rest. (semicolon_follows 0, refl)) (params_exact limit local)
+  params_item_exact local = up_to_exact terminal.Semicolon (λ rest. (semicolon_follows 0, refl)) (param_decl_exact local limit)
+
+  params_said : (local : Bool) (d : PlainParamDecl) (ts : List Symbol) → (LocalDecl local d ⊗ quoted terminal.Semicolon) ts → (SpellsParamDecl d ⊗ quoted terminal.Semicolon) ts
+  params_said local d ts p = record { first = p.first; second = p.second; parts = p.parts; left = p.left.1; right = p.right }
 
   -- an item of one kind
   variant : {A : Type 0} {P : A → List Symbol → Type 0} {size : A → ℕ} {one : ReaderOf A} {May : List Symbol → Type 0} (make : A → PlainItem) → IsExact P size limit one May
@@ -257,8 +264,8 @@ module _ (limit : ℕ) where
   word_sound terminal.Output ts x r = variant Port port_item_exact (λ d ts p. p) (λ d small. small) ts x r
   word_sound terminal.Wire ts x r = variant Net (net_decl_exact false limit) (λ d ts p. p.1) (λ d small. small) ts x r
   word_sound terminal.Reg ts x r = variant Net (net_decl_exact true limit) (λ d ts p. p.1) (λ d small. small) ts x r
-  word_sound terminal.Parameter ts x r = variant Params (params_item_exact false) (λ ps ts p. (false, p)) (λ ps small. small) ts x r
-  word_sound terminal.Localparam ts x r = variant Params (params_item_exact true) (λ ps ts p. (true, p)) (λ ps small. small) ts x r
+  word_sound terminal.Parameter ts x r = variant Params (params_item_exact false) (params_said false) (λ d small. small) ts x r
+  word_sound terminal.Localparam ts x r = variant Params (params_item_exact true) (params_said true) (λ d small. small) ts x r
   word_sound terminal.Assign ts x r = variant Assigns (assigns_exact limit) (λ as' ts p. p) (λ as' small. small) ts x r
   word_sound terminal.Always ts x r = variant AlwaysBlock (always_exact limit) (λ a ts p. p) (λ a small. small) ts x r
   word_sound t ts x r = absurd cc
@@ -285,7 +292,7 @@ module _ (limit : ℕ) where
   net_told true ts m e = rw e refl
   net_told false ts m e = rw e refl
 
-  params_told : (local : Bool) (ts m : List Symbol) → ts ≡ symbol.Terminal (parameter_word local) ∷ m → item_in limit ts ≡ mapped Params (up_to terminal.Semicolon (params_in local limit)) ts
+  params_told : (local : Bool) (ts m : List Symbol) → ts ≡ symbol.Terminal (parameter_word local) ∷ m → item_in limit ts ≡ mapped Params (up_to terminal.Semicolon (param_decl_in local limit)) ts
   unfolding item_in word_item
   params_told true ts m e = rw e refl
   params_told false ts m e = rw e refl
@@ -313,14 +320,12 @@ module _ (limit : ℕ) where
       let b = split {P = quoted (net_word d.reg)} {Q = Flag terminal.Signed d.signed ⊗ Optional SpellsRange d.range ⊗ Listed (SpellsNetName d.reg) d.names ⊗ quoted terminal.Semicolon} g in
       let read = (net_decl_exact d.reg limit).takes d ts rest (record { text = f.text; parts = f.parts; says = (refl, f.says) }) small tt in
       made_item Net _ d ts rest (net_told d.reg ts b.mid (one_is b.left)) read
-  item_takes (Params ps) ts rest f small may =
-      let local = f.says.0 in
-      let g : Front (SpellsParams local ps ⊗ quoted terminal.Semicolon) ts rest = record { text = f.text; parts = f.parts; says = f.says.1 } in
-      let a = split {P = SpellsParams local ps} {Q = quoted terminal.Semicolon} g in
-      let p = a.left.says in
-      let h : Front (quoted (parameter_word local) ⊗ Flag terminal.Signed p.signed ⊗ Optional SpellsRange p.range ⊗ Listed SpellsSetting p.settings) ts a.mid = record { text = a.left.text; parts = a.left.parts; says = p.spelled } in
-      let b = split {P = quoted (parameter_word local)} {Q = Flag terminal.Signed p.signed ⊗ Optional SpellsRange p.range ⊗ Listed SpellsSetting p.settings} h in
-      made_item Params _ ps ts rest (params_told local ts b.mid (one_is b.left)) ((params_item_exact local).takes ps ts rest g small tt)
+  item_takes (Params d) ts rest f small may =
+      let says : (LocalDecl d.local d ⊗ quoted terminal.Semicolon) f.text = record { first = f.says.first; second = f.says.second; parts = f.says.parts; left = (refl, f.says.left); right = f.says.right } in
+      let g : Front (SpellsParamDecl d ⊗ quoted terminal.Semicolon) ts rest = record { text = f.text; parts = f.parts; says = f.says } in
+      let a = split {P = SpellsParamDecl d} {Q = quoted terminal.Semicolon} g in
+      let b = split {P = quoted (parameter_word d.local)} {Q = Flag terminal.Signed d.signed ⊗ Optional SpellsRange d.range ⊗ Listed SpellsParamName d.names} a.left in
+      made_item Params _ d ts rest (params_told d.local ts b.mid (one_is b.left)) ((params_item_exact d.local).takes d ts rest (record { text = f.text; parts = f.parts; says = says }) small tt)
   item_takes (Assigns as') ts rest f small may =
       let g : Front (quoted terminal.Assign ⊗ Listed SpellsAssign as' ⊗ quoted terminal.Semicolon) ts rest = record { text = f.text; parts = f.parts; says = f.says } in
       let b = split {P = quoted terminal.Assign} {Q = Listed SpellsAssign as' ⊗ quoted terminal.Semicolon} g in

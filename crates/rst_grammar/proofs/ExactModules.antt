@@ -1,18 +1,18 @@
 -- The reader of modules is exact, so that a list of symbols has at most one module.
-use Rattle.std.proofs.Common.{◌≡◌, ◌↔◌, ℕ, ◌+◌, ◌≤◌, max, Bool, true, false, List, [], ◌∷◌, ◌++◌, flat_map, Option, Some, None, refl, sym, ap, subst, ◌∙◌, arith}
+use Rattle.std.proofs.Common.{◌≡◌, ◌↔◌, ℕ, ◌+◌, ◌≤◌, Bool, true, false, List, [], ◌∷◌, ◌++◌, Option, Some, None, refl, sym, ap, subst, ◌∙◌, arith}
 use Rattle.rst_tree.specs.Trees.{Text}
-use Rattle.rst_tree.specs.Modules.{PlainParam, PlainPortDecl, PlainHeader, Plain, Full, PlainItem, PlainModule, tallest, height_of_param, height_of_port_decl, height_of_header, height_of_item, height_of_module}
+use Rattle.rst_tree.specs.Modules.{PlainParamDecl, PlainPortDecl, PlainHeader, Plain, Full, PlainItem, PlainModule, tallest, height_of_param_decl, height_of_port_decl, height_of_header, height_of_item, height_of_module}
 use Rattle.rst_grammar.specs.declared.symbol.Terminal.TheVariants as terminal
 use Rattle.rst_grammar.specs.declared.symbol.Symbol.{Symbol}
 use Rattle.rst_grammar.specs.declared.symbol.Symbol.TheVariants as symbol
 use Rattle.rst_grammar.specs.Says.{Nothing, ◌⊗◌, quoted, named}
 use Rattle.rst_grammar.specs.Productions.{Optional, Flag, Repeated, MoreSeparated, Listed}
-use Rattle.rst_grammar.specs.Declarations.{SpellsRange, direction, SpellsKind, SpellsPortDecl, SpellsParams}
+use Rattle.rst_grammar.specs.Declarations.{SpellsRange, direction, SpellsKind, SpellsPortDecl}
 use Rattle.rst_grammar.specs.Items.{SpellsItem}
-use Rattle.rst_grammar.specs.Modules.{SpellsHeaderParams, no_params, some_params, NoPorts, no_parens, empty_parens, SpellsHeader, SpellsModule}
+use Rattle.rst_grammar.specs.Modules.{SpellsGroup, SpellsHeaderParams, NoPorts, no_parens, empty_parens, SpellsHeader, SpellsModule}
 use Rattle.rst_grammar.specs.Reading.{cases, after}
 use Rattle.rst_grammar.specs.ReadParts.{ReaderOf, mapped, both, behind, up_to, separated, comma, comma_before_name}
-use Rattle.rst_grammar.specs.ReadDeclarations.{direction_in, names_in, port_decl_in, params_in}
+use Rattle.rst_grammar.specs.ReadDeclarations.{direction_in, names_in, port_decl_in, param_decl_in}
 use Rattle.rst_grammar.specs.ReadItems.{word_item, item_in}
 use Rattle.rst_grammar.specs.ReadModule.{groups_in, header_params_in, ports_in, header_in, items_in, module_of, module_reader}
 use Rattle.rst_grammar.proofs.Fronts.{Front, split, joined, one_is, nothing_is, nothing_front, whole, whole_of}
@@ -20,115 +20,65 @@ use Rattle.rst_grammar.proofs.Tools.{bind_some, comma_follows, close_follows}
 use Rattle.rst_grammar.proofs.Sound.{some_is, after_front, quoted_front}
 use Rattle.rst_grammar.proofs.Exact.{IsExact, Anything, Without, without, is_after, no_result, before_behind, behind_is, name_exact, behind_exact, up_to_exact, both_exact, mapped_exact, mapped_reads}
 use Rattle.rst_grammar.proofs.ExactLists.{separated_exact, comma_separator, until_exact}
-use Rattle.rst_grammar.proofs.ExactDeclarations.{EndsNames, names_exact, nameless, port_decl_exact, EndsSettings, params_exact}
+use Rattle.rst_grammar.proofs.ExactDeclarations.{EndsNames, names_exact, nameless, port_decl_exact, EndsParams, param_decl_exact}
 use Rattle.rst_grammar.proofs.ExactItems.{item_exact}
 
 -- ---- the parameters of a header
 
--- the height of groups is that of all their parameters
-tallest_append : {A : Type 0} (size : A → ℕ) (xs ys : List A) → tallest size (xs ++ ys) ≡ max (tallest size xs) (tallest size ys)
-tallest_append size [] ys = omega arith
-tallest_append size (x ∷ xs) ys = omega (arith, tallest_append size xs ys)
-
-tallest_flat : {A : Type 0} (size : A → ℕ) (groups : List (List A)) → tallest size (flat_map (λ xs. xs) groups) ≡ tallest (tallest size) groups
-tallest_flat size [] = refl
-tallest_flat size (xs ∷ groups) = tallest_append size xs (flat_map (λ ys. ys) groups) ∙ ap (max (tallest size xs)) (tallest_flat size groups)
-
 module _ (limit : ℕ) where
   -- a group begins with "parameter", so a comma before it ends no list of values
-  group_before : (rest : List Symbol) (y : List PlainParam × List Symbol) → params_in false limit rest ≡ Some y → EndsSettings (symbol.Terminal terminal.Comma ∷ rest)
-  unfolding params_in comma_before_name
+  group_before : (rest : List Symbol) (y : PlainParamDecl × List Symbol) → param_decl_in false limit rest ≡ Some y → EndsParams (symbol.Terminal terminal.Comma ∷ rest)
+  unfolding param_decl_in comma_before_name
   group_before rest y r =
       let a = mapped_reads _ _ rest y r in
       let b = behind_is terminal.Parameter _ rest a.0 a.1 in
       (comma_follows 0, ap (λ m. comma_before_name (symbol.Terminal terminal.Comma ∷ m)) b.1)
 
-  group_list_in : ReaderOf (List (List PlainParam))
-  group_list_in = separated comma (params_in false limit)
+  groups_exact : IsExact (Listed SpellsGroup) (tallest height_of_param_decl) limit (groups_in limit) (λ rest. EndsParams rest × (comma rest ≡ None))
+  unfolding groups_in
+  groups_exact = separated_exact (param_decl_exact false limit) (comma_separator group_before)
 
-  group_list_exact : IsExact (Listed (SpellsParams false)) (tallest (tallest height_of_param)) limit group_list_in (λ rest. EndsSettings rest × (comma rest ≡ None))
-  unfolding group_list_in
-  group_list_exact = separated_exact (params_exact limit false) (comma_separator group_before)
+  abbrev Inside : List PlainParamDecl → List Symbol → Type 0
+  Inside groups = quoted terminal.OpenParen ⊗ Listed SpellsGroup groups ⊗ quoted terminal.CloseParen
 
-  -- groups behind "(", and their parameters
-  record Groups (params : List PlainParam) (ts : List Symbol) : Type 0 where
-    groups : List (List PlainParam)
-    all : params ≡ flat_map (λ ps. ps) groups
-    spelled : Listed (SpellsParams false) groups ts
-
-  groups_exact : IsExact Groups (tallest height_of_param) limit (groups_in limit) (λ rest. EndsSettings rest × (comma rest ≡ None))
-  unfolding groups_in group_list_in
-  groups_exact = mapped_exact (flat_map (λ ps. ps)) group_list_exact
-      (λ x ts p small. (record { groups = x; all = refl; spelled = p }, omega (arith, small, tallest_flat height_of_param x)))
-      (λ ps ts p small. (p.groups, sym p.all, p.spelled, omega (arith, small, ap (tallest height_of_param) p.all, tallest_flat height_of_param p.groups)))
-
-  inside_exact : IsExact (λ ps. quoted terminal.OpenParen ⊗ Groups ps ⊗ quoted terminal.CloseParen) (tallest height_of_param) limit (behind terminal.OpenParen (up_to terminal.CloseParen (groups_in limit))) Anything
+  inside_exact : IsExact Inside (tallest height_of_param_decl) limit (behind terminal.OpenParen (up_to terminal.CloseParen (groups_in limit))) Anything
   unfolding comma comma_before_name
   inside_exact = behind_exact terminal.OpenParen (up_to_exact terminal.CloseParen (λ rest. ((close_follows 0, refl), refl)) groups_exact)
 
-  abbrev ParamsRead : List Symbol → List PlainParam × List Symbol → Type 0
-  ParamsRead ts x = Front (SpellsHeaderParams x.0) ts x.1 × (tallest height_of_param x.0 ≤ limit)
+  abbrev ParamsRead : List Symbol → List PlainParamDecl × List Symbol → Type 0
+  ParamsRead ts x = Front (SpellsHeaderParams x.0) ts x.1 × (tallest height_of_param_decl x.0 ≤ limit)
 
-  -- the groups of a list are told apart from the list, or not
-  with_groups : (params : List PlainParam) (ts : List Symbol) → (quoted terminal.Hash ⊗ quoted terminal.OpenParen ⊗ Groups params ⊗ quoted terminal.CloseParen) ts → SpellsHeaderParams params ts
-  with_groups params ts p =
-      let g = p.right.right.left in
-      some_params g.groups g.all (record {
-        first = p.first;
-        second = p.second;
-        parts = p.parts;
-        left = p.left;
-        right = record {
-          first = p.right.first;
-          second = p.right.second;
-          parts = p.right.parts;
-          left = p.right.left;
-          right = record { first = p.right.right.first; second = p.right.right.second; parts = p.right.right.parts; left = g.spelled; right = p.right.right.right };
-        };
-      })
+  -- behind "#(" there is a group
+  some_groups : (groups : List PlainParamDecl) (ts : List Symbol) → (quoted terminal.Hash ⊗ Inside groups) ts → SpellsHeaderParams groups ts
+  some_groups [] ts p = absurd p.right.right.left
+  some_groups (d ∷ groups) ts p = p
 
-  of_groups : (params : List PlainParam) (groups : List (List PlainParam)) (ts : List Symbol) → params ≡ flat_map (λ ps. ps) groups
-      → (quoted terminal.Hash ⊗ quoted terminal.OpenParen ⊗ Listed (SpellsParams false) groups ⊗ quoted terminal.CloseParen) ts → (quoted terminal.Hash ⊗ quoted terminal.OpenParen ⊗ Groups params ⊗ quoted terminal.CloseParen) ts
-  of_groups params groups ts all p = record {
-    first = p.first;
-    second = p.second;
-    parts = p.parts;
-    left = p.left;
-    right = record {
-      first = p.right.first;
-      second = p.right.second;
-      parts = p.right.parts;
-      left = p.right.left;
-      right = record { first = p.right.right.first; second = p.right.right.second; parts = p.right.right.parts; left = record { groups = groups; all = all; spelled = p.right.right.left }; right = p.right.right.right };
-    };
-  }
-
-  params_found : (ts : List Symbol) (x : List PlainParam × List Symbol) (o : Option (List Symbol)) → after terminal.Hash ts ≡ o → cases o (Some ([], ts)) (λ rest. behind terminal.OpenParen (up_to terminal.CloseParen (groups_in limit)) rest) ≡ Some x → ParamsRead ts x
+  params_found : (ts : List Symbol) (x : List PlainParamDecl × List Symbol) (o : Option (List Symbol)) → after terminal.Hash ts ≡ o → cases o (Some ([], ts)) (λ rest. behind terminal.OpenParen (up_to terminal.CloseParen (groups_in limit)) rest) ≡ Some x → ParamsRead ts x
   params_found ts x None is r =
-      let made : List PlainParam × List Symbol = ([], ts) in
+      let made : List PlainParamDecl × List Symbol = ([], ts) in
       let f = nothing_front ts in
-      subst (ParamsRead ts) (some_is made x r) (record { text = f.text; parts = f.parts; says = no_params refl f.says }, omega arith)
+      subst (ParamsRead ts) (some_is made x r) (record { text = f.text; parts = f.parts; says = f.says }, omega arith)
   params_found ts x (Some rest) is r =
       let inner = inside_exact.sound rest x r in
-      let f : Front (quoted terminal.Hash ⊗ quoted terminal.OpenParen ⊗ Groups x.0 ⊗ quoted terminal.CloseParen) ts x.1 = joined (after_front terminal.Hash ts rest is) inner.0 in
-      (record { text = f.text; parts = f.parts; says = with_groups x.0 f.text f.says }, inner.1)
+      let f : Front (quoted terminal.Hash ⊗ Inside x.0) ts x.1 = joined (after_front terminal.Hash ts rest is) inner.0 in
+      (record { text = f.text; parts = f.parts; says = some_groups x.0 f.text f.says }, inner.1)
 
-  params_sound : (ts : List Symbol) (x : List PlainParam × List Symbol) → header_params_in limit ts ≡ Some x → ParamsRead ts x
+  params_sound : (ts : List Symbol) (x : List PlainParamDecl × List Symbol) → header_params_in limit ts ≡ Some x → ParamsRead ts x
   unfolding header_params_in
   params_sound ts x r = params_found ts x (after terminal.Hash ts) refl r
 
-  params_taken : (x : List PlainParam) (text ts rest : List Symbol) → SpellsHeaderParams x text → ts ≡ text ++ rest → tallest height_of_param x ≤ limit → Without terminal.Hash rest → header_params_in limit ts ≡ Some (x, rest)
+  params_taken : (x : List PlainParamDecl) (ts rest : List Symbol) → Front (SpellsHeaderParams x) ts rest → tallest height_of_param_decl x ≤ limit → Without terminal.Hash rest → header_params_in limit ts ≡ Some (x, rest)
   unfolding header_params_in
-  params_taken x text ts rest (no_params empty p) parts small may =
-      let is : Front Nothing ts rest = record { text = text; parts = parts; says = p } in
-      rw (nothing_is is, may, empty) refl
-  params_taken x text ts rest (some_params groups all p) parts small may =
-      let f : Front (quoted terminal.Hash ⊗ quoted terminal.OpenParen ⊗ Groups x ⊗ quoted terminal.CloseParen) ts rest = record { text = text; parts = parts; says = of_groups x groups text all p } in
-      let a = split {P = quoted terminal.Hash} {Q = quoted terminal.OpenParen ⊗ Groups x ⊗ quoted terminal.CloseParen} f in
-      rw (is_after terminal.Hash ts a.mid (one_is a.left)) (inside_exact.takes x a.mid rest a.right small tt)
+  params_taken [] ts rest f small may =
+      let is : Front Nothing ts rest = record { text = f.text; parts = f.parts; says = f.says } in
+      rw (nothing_is is, may) refl
+  params_taken (d ∷ groups) ts rest f small may =
+      let g : Front (quoted terminal.Hash ⊗ Inside (d ∷ groups)) ts rest = record { text = f.text; parts = f.parts; says = f.says } in
+      let a = split {P = quoted terminal.Hash} {Q = Inside (d ∷ groups)} g in
+      rw (is_after terminal.Hash ts a.mid (one_is a.left)) (inside_exact.takes (d ∷ groups) a.mid rest a.right small tt)
 
-  header_params_exact : IsExact SpellsHeaderParams (tallest height_of_param) limit (header_params_in limit) (Without terminal.Hash)
-  header_params_exact = record { sound = params_sound; takes = λ x ts rest f small may. params_taken x f.text ts rest f.says f.parts small may }
+  header_params_exact : IsExact SpellsHeaderParams (tallest height_of_param_decl) limit (header_params_in limit) (Without terminal.Hash)
+  header_params_exact = record { sound = params_sound; takes = params_taken }
 
 -- ---- the ports of a header
 

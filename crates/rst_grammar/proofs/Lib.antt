@@ -13,3 +13,5 @@ pub mod ExactDeclarations
 pub mod ExactLinks
 pub mod ExactItems
 pub mod ExactModules
+pub mod Formed
+pub mod FormedModules

@@ -10,7 +10,8 @@ use Rattle.rst_grammar.specs.declared.symbol.Symbol.{Symbol}
 use Rattle.rst_grammar.specs.declared.symbol.Symbol.TheVariants as symbol
 use Rattle.rst_grammar.specs.Says.{◌⊗◌, quoted}
 use Rattle.rst_grammar.specs.Expressions.{Spells}
-use Rattle.rst_grammar.specs.Statements.{ends_open, assignment, case_word, defaults, HasArm, MayBeNamed, unnamed, with_name, MayBeColon, no_colon, colon, SpellsLabel, SpellsLabels, SpellsMoreLabels, SpellsStmt, SpellsStmts, SpellsArms}
+use Rattle.rst_tree.specs.WellFormed.{HasArm, defaults}
+use Rattle.rst_grammar.specs.Statements.{ends_open, assignment, case_word, MayBeNamed, unnamed, with_name, MayBeColon, no_colon, colon, SpellsLabel, SpellsLabels, SpellsMoreLabels, SpellsStmt, SpellsStmts, SpellsArms}
 use Rattle.rst_grammar.specs.Reading.{◌>>=◌, cases, after, Readers, readers}
 use Rattle.rst_grammar.specs.ReadStatement.{TargetReader, StmtReader, target_reader, assignment_at, set_in, else_in, if_in, behind_name, block_name, until_end, block_in, masked_at, label_in, more_labels, labels_in, default_colon, arms_in, some_arms, case_in, word_in, stmt_in, stmt_reader}
 use Rattle.rst_grammar.proofs.Fronts.{Front, joined, one_front, nothing_is, nothing_front, whole, whole_of}

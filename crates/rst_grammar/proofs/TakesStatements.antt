@@ -15,7 +15,8 @@ use Rattle.rst_grammar.specs.declared.symbol.Symbol.TheVariants as symbol
 use Rattle.rst_grammar.specs.Says.{Nothing, One, ◌⊗◌, quoted, named}
 use Rattle.rst_grammar.specs.Expressions.{IsUnary, IsBinary, unary_of, Spells, SpellsAll}
 use Rattle.rst_grammar.specs.Targets.{SpellsTarget, SpellsTargets}
-use Rattle.rst_grammar.specs.Statements.{ends_open, assignment, case_word, defaults, HasArm, MayBeNamed, unnamed, with_name, MayBeColon, no_colon, colon, SpellsLabel, SpellsLabels, SpellsMoreLabels, SpellsStmt, SpellsStmts, SpellsArms}
+use Rattle.rst_tree.specs.WellFormed.{HasArm, defaults}
+use Rattle.rst_grammar.specs.Statements.{ends_open, assignment, case_word, MayBeNamed, unnamed, with_name, MayBeColon, no_colon, colon, SpellsLabel, SpellsLabels, SpellsMoreLabels, SpellsStmt, SpellsStmts, SpellsArms}
 use Rattle.rst_grammar.specs.Reading.{◌>>=◌, after, Readers, readers, higher, full_in, binary_in, operand_in, number_in}
 use Rattle.rst_grammar.specs.ReadStatement.{TargetReader, StmtReader, target_reader, set_in, else_in, if_in, block_name, until_end, block_in, masked_at, label_in, more_labels, labels_in, default_colon, arms_in, some_arms, case_in, word_in, stmt_in, stmt_reader}
 use Rattle.rst_grammar.proofs.Fronts.{Front, split, one_is, nothing_is, whole, no_longer}

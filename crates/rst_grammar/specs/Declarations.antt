@@ -1,7 +1,7 @@
 -- The grammar of declarations: ranges, ports, nets and parameters (IEEE 1364-2001, annex A.2, narrowed).
 use Rattle.std.specs.Prelude.{◌≡◌, List, map, Bool, true, false, Option, Some, None}
 use Rattle.rst_tree.specs.Trees.{Text, Tree}
-use Rattle.rst_tree.specs.Modules.{PlainRange, PlainPortDecl, PlainParam, PlainNetName, PlainNetDecl}
+use Rattle.rst_tree.specs.Modules.{PlainRange, PlainPortDecl, PlainParamName, PlainParamDecl, PlainNetName, PlainNetDecl}
 use Rattle.rst_grammar.specs.declared.symbol.Terminal.{Terminal}
 use Rattle.rst_grammar.specs.declared.symbol.Terminal.TheVariants as terminal
 use Rattle.rst_grammar.specs.declared.symbol.Symbol.{Symbol}
@@ -32,28 +32,17 @@ abbrev pub SpellsPortDecl : ProductionOf PlainPortDecl
 SpellsPortDecl d ts = (quoted (direction d.input) ⊗ SpellsKind d.reg ⊗ Flag terminal.Signed d.signed ⊗ Optional SpellsRange d.range ⊗ Listed named d.names) ts
 
 -- passign = ID "=" expr
-pub record Setting : Type 0 where
-  pub name : Text
-  pub value : Tree
-
-abbrev pub SpellsSetting : ProductionOf Setting
-SpellsSetting s ts = (named s.name ⊗ quoted terminal.Equal ⊗ Spells s.value) ts
+abbrev pub SpellsParamName : ProductionOf PlainParamName
+SpellsParamName n ts = (named n.name ⊗ quoted terminal.Equal ⊗ Spells n.value) ts
 
 -- "parameter" | "localparam"
 abbrev pub parameter_word : Bool → Terminal
 parameter_word true = terminal.Localparam
 parameter_word false = terminal.Parameter
 
-abbrev pub param_of : Bool → Bool → Option PlainRange → Setting → PlainParam
-param_of local signed range s = record { local = local; signed = signed; range = range; name = s.name; value = s.value }
-
 -- ( "parameter" | "localparam" ) [ "signed" ] [ range ] passign { "," passign }: sign and range hold for all names
-pub record SpellsParams (local : Bool) (params : List PlainParam) (ts : List Symbol) : Type 0 where
-  pub signed : Bool
-  pub range : Option PlainRange
-  pub settings : List Setting
-  pub all : params ≡ map (param_of local signed range) settings
-  pub spelled : (quoted (parameter_word local) ⊗ Flag terminal.Signed signed ⊗ Optional SpellsRange range ⊗ Listed SpellsSetting settings) ts
+abbrev pub SpellsParamDecl : ProductionOf PlainParamDecl
+SpellsParamDecl d ts = (quoted (parameter_word d.local) ⊗ Flag terminal.Signed d.signed ⊗ Optional SpellsRange d.range ⊗ Listed SpellsParamName d.names) ts
 
 -- "wire" | "reg"
 abbrev pub net_word : Bool → Terminal

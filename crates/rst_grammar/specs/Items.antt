@@ -1,5 +1,5 @@
 -- The grammar of a module's items (IEEE 1364-2001, annex A.1.5, narrowed).
-use Rattle.std.specs.Prelude.{List, Bool}
+use Rattle.std.specs.Prelude.{List}
 use Rattle.rst_tree.specs.declared.module.Event.{Event}
 use Rattle.rst_tree.specs.declared.module.EdgeKind.{EdgeKind}
 use Rattle.rst_tree.specs.declared.module.EdgeKind.TheVariants as edge
@@ -11,7 +11,7 @@ use Rattle.rst_grammar.specs.Expressions.{Spells}
 use Rattle.rst_grammar.specs.Targets.{SpellsTarget}
 use Rattle.rst_grammar.specs.Statements.{SpellsStmt}
 use Rattle.rst_grammar.specs.Productions.{ProductionOf, Separated, Listed}
-use Rattle.rst_grammar.specs.Declarations.{SpellsPortDecl, SpellsNetDecl, SpellsParams}
+use Rattle.rst_grammar.specs.Declarations.{SpellsPortDecl, SpellsNetDecl, SpellsParamDecl}
 use Rattle.rst_grammar.specs.Links.{SpellsInstance}
 
 -- target "=" expr
@@ -52,8 +52,8 @@ abbrev pub SpellsItem : ProductionOf PlainItem
 SpellsItem (Port d) ts = (SpellsPortDecl d ⊗ quoted terminal.Semicolon) ts
 -- ( "wire" | "reg" ) .. ";"
 SpellsItem (Net d) ts = SpellsNetDecl d ts
--- ( "parameter" | "localparam" ) [ "signed" ] [ range ] passign { "," passign } ";"
-SpellsItem (Params ps) ts = ((local : Bool) × (SpellsParams local ps ⊗ quoted terminal.Semicolon) ts)
+-- ( "parameter" | "localparam" ) .. ";"
+SpellsItem (Params d) ts = (SpellsParamDecl d ⊗ quoted terminal.Semicolon) ts
 -- "assign" target "=" expr { "," target "=" expr } ";"
 SpellsItem (Assigns as') ts = (quoted terminal.Assign ⊗ Listed SpellsAssign as' ⊗ quoted terminal.Semicolon) ts
 -- "always" events stmt

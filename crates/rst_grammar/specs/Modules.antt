@@ -1,18 +1,21 @@
 -- The grammar of modules (IEEE 1364-2001, annex A.1.3, narrowed).
-use Rattle.std.specs.Prelude.{◌≡◌, List, [], ◌∷◌, flat_map, false}
-use Rattle.rst_tree.specs.Modules.{PlainParam, PlainHeader, Plain, Full, PlainModule}
+use Rattle.std.specs.Prelude.{◌≡◌, List, [], ◌∷◌, false}
+use Rattle.rst_tree.specs.Modules.{PlainParamDecl, PlainHeader, Plain, Full, PlainModule}
 use Rattle.rst_grammar.specs.declared.symbol.Terminal.TheVariants as terminal
 use Rattle.rst_grammar.specs.declared.symbol.Symbol.{Symbol}
 use Rattle.rst_grammar.specs.Says.{Nothing, ◌⊗◌, quoted, named}
 use Rattle.rst_grammar.specs.Productions.{ProductionOf, Listed, Repeated}
-use Rattle.rst_grammar.specs.Declarations.{SpellsPortDecl, SpellsParams}
+use Rattle.rst_grammar.specs.Declarations.{SpellsPortDecl, SpellsParamDecl}
 use Rattle.rst_grammar.specs.Items.{SpellsItem}
 
--- [ "#" "(" pgroup { "," pgroup } ")" ]: the parameters of the groups, one after the other
-pub data SpellsHeaderParams (params : List PlainParam) (ts : List Symbol) : Type 0 where
-  no_params : params ≡ [] → Nothing ts → SpellsHeaderParams params ts
-  some_params : (groups : List (List PlainParam)) → params ≡ flat_map (λ ps. ps) groups
-      → (quoted terminal.Hash ⊗ quoted terminal.OpenParen ⊗ Listed (SpellsParams false) groups ⊗ quoted terminal.CloseParen) ts → SpellsHeaderParams params ts
+-- pgroup = "parameter" [ "signed" ] [ range ] passign { "," passign }
+abbrev pub SpellsGroup : ProductionOf PlainParamDecl
+SpellsGroup d ts = (d.local ≡ false) × SpellsParamDecl d ts
+
+-- [ "#" "(" pgroup { "," pgroup } ")" ]
+abbrev pub SpellsHeaderParams : ProductionOf (List PlainParamDecl)
+SpellsHeaderParams [] ts = Nothing ts
+SpellsHeaderParams (d ∷ groups) ts = (quoted terminal.Hash ⊗ quoted terminal.OpenParen ⊗ Listed SpellsGroup (d ∷ groups) ⊗ quoted terminal.CloseParen) ts
 
 -- no ports: [ "(" ")" ]
 pub data NoPorts (ts : List Symbol) : Type 0 where

@@ -1,12 +1,12 @@
 -- Reading declarations from left to right.
-use Rattle.std.specs.Prelude.{ℕ, List, ◌∷◌, map, Bool, true, false, Option, Some, None}
+use Rattle.std.specs.Prelude.{ℕ, List, ◌∷◌, Bool, true, false, Option, Some, None}
 use Rattle.rst_tree.specs.Trees.{Text, Tree}
-use Rattle.rst_tree.specs.Modules.{PlainRange, PlainPortDecl, PlainParam, PlainNetName, PlainNetDecl}
+use Rattle.rst_tree.specs.Modules.{PlainRange, PlainPortDecl, PlainParamName, PlainParamDecl, PlainNetName, PlainNetDecl}
 use Rattle.rst_grammar.specs.declared.symbol.Terminal.TheVariants as terminal
 use Rattle.rst_grammar.specs.declared.symbol.Symbol.TheVariants as symbol
 use Rattle.rst_grammar.specs.Reading.{readers}
 use Rattle.rst_grammar.specs.ReadParts.{ReaderOf, name_in, mapped, both, behind, up_to, optional, flag, separated, comma, comma_before_name}
-use Rattle.rst_grammar.specs.Declarations.{Setting, param_of, parameter_word, net_word}
+use Rattle.rst_grammar.specs.Declarations.{parameter_word, net_word}
 
 -- an expression of a height up to the limit
 abbrev pub expr_in : ℕ → ReaderOf Tree
@@ -41,22 +41,22 @@ port_decl_of x = record { input = x.0; reg = x.1.0; signed = x.1.1.0; range = x.
 unfoldable pub port_decl_in : ℕ → ReaderOf PlainPortDecl
 port_decl_in limit = mapped port_decl_of (both direction_in (both kind_in (both (flag terminal.Signed) (both (optional terminal.OpenBracket (range_in limit)) names_in))))
 
-abbrev pub setting_of : Text × Tree → Setting
-setting_of x = record { name = x.0; value = x.1 }
+abbrev pub param_name_of : Text × Tree → PlainParamName
+param_name_of x = record { name = x.0; value = x.1 }
 
 -- a name, "=" and its value
-unfoldable pub setting_in : ℕ → ReaderOf Setting
-setting_in limit = mapped setting_of (both name_in (behind terminal.Equal (expr_in limit)))
+unfoldable pub param_name_in : ℕ → ReaderOf PlainParamName
+param_name_in limit = mapped param_name_of (both name_in (behind terminal.Equal (expr_in limit)))
 
-unfoldable pub settings_in : ℕ → ReaderOf (List Setting)
-settings_in limit = separated comma_before_name (setting_in limit)
+unfoldable pub param_names_in : ℕ → ReaderOf (List PlainParamName)
+param_names_in limit = separated comma_before_name (param_name_in limit)
 
-abbrev pub params_of : Bool → Bool × (Option PlainRange × List Setting) → List PlainParam
-params_of local x = map (param_of local x.0 x.1.0) x.1.1
+abbrev pub param_decl_of : Bool → Bool × (Option PlainRange × List PlainParamName) → PlainParamDecl
+param_decl_of local x = record { local = local; signed = x.0; range = x.1.0; names = x.1.1 }
 
 -- "parameter" or, of local ones, "localparam", and the parameters behind it
-unfoldable pub params_in : Bool → ℕ → ReaderOf (List PlainParam)
-params_in local limit = mapped (params_of local) (behind (parameter_word local) (both (flag terminal.Signed) (both (optional terminal.OpenBracket (range_in limit)) (settings_in limit))))
+unfoldable pub param_decl_in : Bool → ℕ → ReaderOf PlainParamDecl
+param_decl_in local limit = mapped (param_decl_of local) (behind (parameter_word local) (both (flag terminal.Signed) (both (optional terminal.OpenBracket (range_in limit)) (param_names_in limit))))
 
 -- "=" and a value behind a wire, nothing behind a reg
 unfoldable pub net_value_in : Bool → ℕ → ReaderOf (Option Tree)

@@ -14,7 +14,7 @@ use Rattle.rst_grammar.specs.declared.symbol.Symbol.TheVariants as symbol
 use Rattle.rst_grammar.specs.Reading.{◌>>=◌, cases, after}
 use Rattle.rst_grammar.specs.ReadStatement.{target_reader, stmt_reader}
 use Rattle.rst_grammar.specs.ReadParts.{ReaderOf, name_in, mapped, both, behind, up_to, separated, comma}
-use Rattle.rst_grammar.specs.ReadDeclarations.{expr_in, port_decl_in, params_in, net_decl_in}
+use Rattle.rst_grammar.specs.ReadDeclarations.{expr_in, port_decl_in, param_decl_in, net_decl_in}
 
 -- ---- links and instances
 
@@ -120,8 +120,8 @@ word_item terminal.Input limit ts = mapped Port (up_to terminal.Semicolon (port_
 word_item terminal.Output limit ts = mapped Port (up_to terminal.Semicolon (port_decl_in limit)) ts
 word_item terminal.Wire limit ts = mapped Net (net_decl_in false limit) ts
 word_item terminal.Reg limit ts = mapped Net (net_decl_in true limit) ts
-word_item terminal.Parameter limit ts = mapped Params (up_to terminal.Semicolon (params_in false limit)) ts
-word_item terminal.Localparam limit ts = mapped Params (up_to terminal.Semicolon (params_in true limit)) ts
+word_item terminal.Parameter limit ts = mapped Params (up_to terminal.Semicolon (param_decl_in false limit)) ts
+word_item terminal.Localparam limit ts = mapped Params (up_to terminal.Semicolon (param_decl_in true limit)) ts
 word_item terminal.Assign limit ts = mapped Assigns (assigns_in limit) ts
 word_item terminal.Always limit ts = mapped AlwaysBlock (always_in limit) ts
 word_item _ limit ts = None

@@ -1,20 +1,20 @@
 -- Reading modules from left to right.
-use Rattle.std.specs.Prelude.{ℕ, length, List, [], ◌∷◌, flat_map, false, Some}
+use Rattle.std.specs.Prelude.{ℕ, length, List, [], ◌∷◌, false, Some}
 use Rattle.rst_tree.specs.Trees.{Text}
-use Rattle.rst_tree.specs.Modules.{PlainParam, PlainHeader, Plain, Full, PlainItem, PlainModule}
+use Rattle.rst_tree.specs.Modules.{PlainParamDecl, PlainHeader, Plain, Full, PlainItem, PlainModule}
 use Rattle.rst_grammar.specs.declared.symbol.Terminal.TheVariants as terminal
 use Rattle.rst_grammar.specs.declared.symbol.Symbol.TheVariants as symbol
 use Rattle.rst_grammar.specs.Reading.{cases, after}
 use Rattle.rst_grammar.specs.ReadParts.{ReaderOf, name_in, mapped, both, behind, up_to, separated, comma, until}
-use Rattle.rst_grammar.specs.ReadDeclarations.{names_in, port_decl_in, params_in}
+use Rattle.rst_grammar.specs.ReadDeclarations.{names_in, port_decl_in, param_decl_in}
 use Rattle.rst_grammar.specs.ReadItems.{item_in}
 
 -- groups of parameters with commas between them
-unfoldable pub groups_in : ℕ → ReaderOf (List PlainParam)
-groups_in limit = mapped (flat_map (λ ps. ps)) (separated comma (params_in false limit))
+unfoldable pub groups_in : ℕ → ReaderOf (List PlainParamDecl)
+groups_in limit = separated comma (param_decl_in false limit)
 
 -- [ "#" "(" pgroup { "," pgroup } ")" ]
-unfoldable pub header_params_in : ℕ → ReaderOf (List PlainParam)
+unfoldable pub header_params_in : ℕ → ReaderOf (List PlainParamDecl)
 header_params_in limit ts = cases (after terminal.Hash ts) (Some ([], ts)) (λ rest. behind terminal.OpenParen (up_to terminal.CloseParen (groups_in limit)) rest)
 
 -- what stands in the parentheses of a header, and the closing one
@@ -31,7 +31,7 @@ header_in limit ts = cases (after terminal.OpenParen ts) (Some (Plain [], ts)) (
 unfoldable pub items_in : ℕ → ReaderOf (List PlainItem)
 items_in limit ts = until terminal.Endmodule (item_in limit) (length ts) ts
 
-abbrev pub module_of : Text × (List PlainParam × (PlainHeader × List PlainItem)) → PlainModule
+abbrev pub module_of : Text × (List PlainParamDecl × (PlainHeader × List PlainItem)) → PlainModule
 module_of x = record { name = x.0; params = x.1.0; header = x.1.1.0; items = x.1.1.1 }
 
 -- a module of a height up to the limit

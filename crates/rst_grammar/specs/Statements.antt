@@ -1,8 +1,9 @@
 -- The grammar of statements.
-use Rattle.std.specs.Prelude.{◌≡◌, ℕ, suc, ◌≤◌, List, Bool, true, false}
+use Rattle.std.specs.Prelude.{◌≡◌, ℕ, ◌≤◌, List, Bool, true, false}
 use Rattle.rst_tree.specs.Trees.{Tree, Trees, Number}
 use Rattle.rst_tree.specs.Trees as trees
 use Rattle.rst_tree.specs.Statements.{Statement, Statements, Arms, Block, If, IfElse, Case, Set, Empty, end, more, no_arm, labels, otherwise}
+use Rattle.rst_tree.specs.WellFormed.{HasArm, defaults}
 use Rattle.rst_grammar.specs.declared.symbol.Terminal.{Terminal}
 use Rattle.rst_grammar.specs.declared.symbol.Terminal.TheVariants as terminal
 use Rattle.rst_grammar.specs.declared.symbol.Symbol.{Symbol}
@@ -25,16 +26,6 @@ assignment false = terminal.LessEqual
 abbrev pub case_word : Bool → Terminal
 case_word true = terminal.Casez
 case_word false = terminal.Case
-
--- how many arms are a default
-abbrev pub defaults : Arms → ℕ
-defaults no_arm = 0
-defaults (labels es s others) = defaults others
-defaults (otherwise s others) = suc (defaults others)
-
-abbrev pub HasArm : Arms → Type 0
-HasArm no_arm = ⊥
-HasArm _ = Unit {0}
 
 -- [ ":" ID ]
 pub data MayBeNamed (ts : List Symbol) : Type 0 where

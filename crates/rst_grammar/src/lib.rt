@@ -4,5 +4,5 @@
 mod laws;
 mod symbol;
 
-pub use laws::{one_module, one_statement, one_target, one_tree};
+pub use laws::{one_module, one_statement, one_target, one_tree, well_formed};
 pub use symbol::{NameText, Symbol, Terminal};

@@ -1,13 +1,13 @@
 -- White space, comments, attributes and directives at the front of a text.
-use Rattle.std.proofs.Common.{◌≡◌, ℕ, zero, suc, ◌+◌, ◌≤◌, Bool, true, false, cond, List, [], ◌∷◌, ◌++◌, length, take, drop, Option, Some, None, inl, inr, ◌⊎◌, refl, sym, ap, subst, ◌∙◌, arith, take-append-drop}
-use Rattle.std.specs.List.{prefix_len}
+use Rattle.std.proofs.Common.{◌≡◌, ℕ, zero, suc, ◌+◌, ◌≤◌, Bool, true, false, cond, List, [], ◌∷◌, ◌++◌, length, take, drop, Option, Some, None, inl, inr, ◌⊎◌, refl, sym, ap, subst, ◌∙◌, arith, take-append-drop, codes, bytes_eq}
+use Rattle.std.specs.List.{prefix_len, take_while}
 use Rattle.std.specs.Option.{option_map}
 use Rattle.std.proofs.lemmas.List.Folds.{length-prefix_len}
 use Rattle.std.proofs.lemmas.List.{length-take-le}
 use Rattle.std.proofs.lemmas.Bool.Decides.{nat_tests}
 use Rattle.std.specs.Prelude.{◌||◌, ◌==◌}
-use Rattle.rst_lex.specs.Bytes.{is_space}
-use Rattle.rst_lex.specs.Gaps.{is_in_line, IsWhite, IsLine, EndsAtFirst, IsBlock, begins_with_close, closes_next, IsAttribute, IsGap, white, line, block, attribute, directive}
+use Rattle.rst_lex.specs.Bytes.{is_space, is_name_byte}
+use Rattle.rst_lex.specs.Gaps.{is_in_line, IsWhite, IsLine, EndsAtFirst, IsBlock, begins_with_close, closes_next, IsAttribute, is_skipped_directive, IsGap, white, line, block, attribute, directive}
 use Rattle.rst_lex.specs.Tokens.{Begins}
 use Rattle.rst_lex.specs.Lexing.{Nowhere}
 use Rattle.rst_lex.specs.Fronts.{closes, close_len}
@@ -291,10 +291,40 @@ directive_len a bs (x ∷ front) behind s e (white w) = let h : x ≡ a = cc in 
 directive_len a bs (x ∷ front) behind s e (line l) = let h : x ≡ a = cc in absurd (differ x 96 47 (h ∙ s) (line_head x front l) refl)
 directive_len a bs (x ∷ front) behind s e (block l) = let h : x ≡ a = cc in absurd (differ x 96 47 (h ∙ s) (block_head x front l) refl)
 directive_len a bs (x ∷ front) behind s e (attribute l) = let h : x ≡ a = cc in absurd (differ x 96 40 (h ∙ s) (attribute_head x front l) refl)
-directive_len a bs (x ∷ front) behind s e (directive d) = let h : bs ≡ front ++ behind = cc in omega (arith, run_longest is_in_line bs front behind h d.1)
+directive_len a bs (x ∷ front) behind s e (directive d) = let h : bs ≡ front ++ behind = cc in omega (arith, run_longest is_in_line bs front behind h d.2)
 
-pub directive_gap : (bs : List ℕ) → GapOf (1 + prefix_len is_in_line bs) (96 ∷ bs)
-directive_gap bs =
+name_in_line : (b : ℕ) → is_in_line b ≡ false → is_name_byte b ≡ true → ⊥
+name_in_line b l n = grind (arith, nat_tests)
+
+word_step : (b : ℕ) (bs : List ℕ) (t : Bool) → is_name_byte b ≡ t → take_while is_name_byte (b ∷ bs) ≡ cond t (b ∷ take_while is_name_byte bs) []
+word_step b bs true e = let n : 1 + prefix_len is_name_byte bs ≡ suc (prefix_len is_name_byte bs) = omega arith in
+    ap (λ t. take (cond t (1 + prefix_len is_name_byte bs) 0) (b ∷ bs)) e ∙ ap (λ k. take k (b ∷ bs)) n
+word_step b bs false e = ap (λ t. take (cond t (1 + prefix_len is_name_byte bs) 0) (b ∷ bs)) e
+
+-- the word at the front of a line is the word at the front of the text
+word_of_line : (bs : List ℕ) → take_while is_name_byte (take (prefix_len is_in_line bs) bs) ≡ take_while is_name_byte bs
+word_of_line [] = refl
+word_of_line (b ∷ bs) = by_line (is_in_line b) refl (word_of_line bs)
+  where
+    outside : (t : Bool) → is_name_byte b ≡ t → is_in_line b ≡ false → [] ≡ take_while is_name_byte (b ∷ bs)
+    outside true n l = absurd (name_in_line b l n)
+    outside false n l = sym (word_step b bs false n)
+
+    within : (t : Bool) → is_name_byte b ≡ t → take_while is_name_byte (take (prefix_len is_in_line bs) bs) ≡ take_while is_name_byte bs → take_while is_name_byte (b ∷ take (prefix_len is_in_line bs) bs) ≡ take_while is_name_byte (b ∷ bs)
+    within true n again = word_step b (take (prefix_len is_in_line bs) bs) true n ∙ ap (λ w. b ∷ w) again ∙ sym (word_step b bs true n)
+    within false n again = word_step b (take (prefix_len is_in_line bs) bs) false n ∙ sym (word_step b bs false n)
+
+    by_line : (t : Bool) → is_in_line b ≡ t → take_while is_name_byte (take (prefix_len is_in_line bs) bs) ≡ take_while is_name_byte bs → take_while is_name_byte (take (cond t (1 + prefix_len is_in_line bs) 0) (b ∷ bs)) ≡ take_while is_name_byte (b ∷ bs)
+    by_line true l again =
+        let n : 1 + prefix_len is_in_line bs ≡ suc (prefix_len is_in_line bs) = omega arith in
+        ap (λ k. take_while is_name_byte (take k (b ∷ bs))) n ∙ within (is_name_byte b) refl again
+    by_line false l again = outside (is_name_byte b) refl l
+
+skipped_line : (bs : List ℕ) → is_skipped_directive bs ≡ true → is_skipped_directive (take (prefix_len is_in_line bs) bs) ≡ true
+skipped_line bs s = ap (λ w. bytes_eq w (codes "timescale") || bytes_eq w (codes "default_nettype")) (word_of_line bs) ∙ s
+
+pub directive_gap : (bs : List ℕ) → is_skipped_directive bs ≡ true → GapOf (1 + prefix_len is_in_line bs) (96 ∷ bs)
+directive_gap bs s =
     let n = prefix_len is_in_line bs in
     let size = length-prefix_len is_in_line bs in
     let len : length (96 ∷ take n bs) ≡ 1 + n = omega arith in (
@@ -302,7 +332,7 @@ directive_gap bs =
       drop n bs,
       record {
         parts = ap (λ t. 96 ∷ t) (sym (take-append-drop n bs));
-        fits = directive (refl, run_fits is_in_line bs);
+        fits = directive (refl, skipped_line bs s, run_fits is_in_line bs);
         longest = λ front behind e g. omega (arith, len, directive_len 96 bs front behind refl e g);
       },
       len,

@@ -12,13 +12,16 @@ use Rattle.rst_lex.specs.declared.front.Front.TheVariants as fronts
 use Rattle.rst_lex.specs.declared.piece.Piece.TheVariants as pieces
 use Rattle.rst_lex.specs.Bytes.{is_space, is_digit, is_name_start, is_name_byte, is_decimal_byte, EachByte}
 use Rattle.rst_lex.specs.Words.{IsIdentifier}
-use Rattle.rst_lex.specs.Marks.{is_mark, IsMark, mark_len}
+use Rattle.rst_lex.specs.Marks.{IsMark}
+use Rattle.rst_lex.specs.MarkFronts.{is_mark, mark_len}
 use Rattle.rst_lex.specs.Numbers.{IsDecimal, IsSize, Based, IsBased}
 use Rattle.rst_lex.specs.Literals.{width_of}
 use Rattle.rst_lex.specs.Gaps.{is_in_line, OpensBlock, closes_next, OpensAttribute, is_skipped_directive, IsGap}
 use Rattle.rst_lex.specs.Tokens.{IsSystem, IsToken, identifier, system, decimal, based, mark, Begins}
-use Rattle.rst_lex.specs.Lexing.{Nowhere, IsBasedText, OpensBased, IsFault, block, attribute, directive, broken, IsNoNumber, IsSound, IsPiece}
+use Rattle.rst_lex.specs.Lexing.{Nowhere, IsBasedText, OpensBased, IsFault, block, attribute, directive, broken, IsNoNumber, IsSound}
+use Rattle.rst_lex.specs.Pieces.{IsPiece}
 use Rattle.rst_lex.specs.Fronts.{close_len, comment_front, slash_front, bracket_front, directive_front, system_front, tail_front, tail_based, based_front, quote_front, number_front, mark_front, text_front}
+use Rattle.rst_lex.proofs.MarkShapes.{no_mark}
 use Rattle.rst_lex.proofs.Shapes.{run_longest, run_fits, begins_identifier, begins_mark, no_empty_token, identifier_head, system_head, mark_head, based_head, mark_longest, empty_len}
 use Rattle.rst_lex.proofs.GapFronts.{begins_gap, no_gap, GapOf, white_gap, line_gap, block_gap, no_block, slash_alone, attribute_gap, bracket_alone, no_attribute, directive_gap}
 use Rattle.rst_lex.proofs.Sounds.{begins_number, begins_fault, sound_other, sound_slash, sound_bracket, sound_backquote, sound_number}
@@ -166,7 +169,7 @@ says_bracket (b ∷ bs) = bracket_case b bs (b == 42) (closes_next bs) refl refl
 -- ---- directives
 
 directive_case : (bs : List ℕ) (t : Bool) → is_skipped_directive bs ≡ t → Says (cond t (fronts.Gap (1 + prefix_len is_in_line bs)) (fronts.Fault causes.Directive)) (96 ∷ bs)
-directive_case bs true e = gap_piece (1 + prefix_len is_in_line bs) (96 ∷ bs) (sound_backquote bs e) (directive_gap bs)
+directive_case bs true e = gap_piece (1 + prefix_len is_in_line bs) (96 ∷ bs) (sound_backquote bs e) (directive_gap bs e)
 directive_case bs false e = inl (directive (refl, e))
 
 says_directive : (bs : List ℕ) → Says (directive_front bs) (96 ∷ bs)
@@ -414,7 +417,7 @@ mark_case : (a : ℕ) (bs : List ℕ) (t : Bool) → IsOther a → (mark_len (a 
 mark_case a bs true o e = inr (refl, sound_other a bs o.no_fault, no_gap a bs o.no_gaps, λ front behind p t. none front behind p (other_token a bs front behind o p t))
   where
     none : (front behind : List ℕ) → a ∷ bs ≡ front ++ behind → IsMark front → ⊥
-    none [] behind p m = m
+    none [] behind p m = no_mark m
     none (x ∷ front) behind p m = let l = mark_longest (a ∷ bs) (x ∷ front) behind p m in let z = eqb-true (mark_len (a ∷ bs)) 0 e in omega arith
 mark_case a bs false o e = mark_says a bs (is_one (is_mark a) refl) (sound_other a bs o.no_fault) (no_gap a bs o.no_gaps)
   where

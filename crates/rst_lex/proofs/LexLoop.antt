@@ -14,7 +14,8 @@ use Rattle.rst_lex.specs.declared.token.Token.{Token}
 use Rattle.rst_lex.specs.Gaps.{IsGap}
 use Rattle.rst_lex.specs.Small.{InOrder}
 use Rattle.rst_lex.specs.Tokens.{IsToken, token_text}
-use Rattle.rst_lex.specs.Lexing.{Answer, with_token, fault_at, Lexes, done, gap, token, fault, bad_byte, Reads, IsTokenOf, IsPiece}
+use Rattle.rst_lex.specs.Lexing.{Answer, with_token, fault_at, Lexes, done, gap, token, fault, bad_byte, Reads, IsTokenOf}
+use Rattle.rst_lex.specs.Pieces.{IsPiece}
 use Rattle.rst_lex.proofs.Shapes.{no_empty_token}
 use Rattle.rst_lex.proofs.GapFronts.{no_empty_gap}
 
@@ -47,23 +48,23 @@ piece_says text at p lt s =
     let whole : take (length text - at) (drop at text) ≡ drop at text = ap (λ k. take k (drop at text)) (sym (length-drop at text)) ∙ take-length (drop at text) in
     subst (IsPiece p) whole s
 
-some_gap : (bs : List ℕ) → IsGap bs → 0 < length bs
-some_gap [] g = absurd (no_empty_gap g)
-some_gap (b ∷ bs) g = omega arith
+pub gap_some : (bs : List ℕ) → IsGap bs → 0 < length bs
+gap_some [] g = absurd (no_empty_gap g)
+gap_some (b ∷ bs) g = omega arith
 
-some_token : (bs : List ℕ) → IsToken bs → 0 < length bs
-some_token [] t = absurd (no_empty_token t)
-some_token (b ∷ bs) t = omega arith
+pub token_some : (bs : List ℕ) → IsToken bs → 0 < length bs
+token_some [] t = absurd (no_empty_token t)
+token_some (b ∷ bs) t = omega arith
 
 pub gap_ends : (text : List ℕ) (at len : ℕ) → at < length text → IsPiece (pieces.Gap len) (drop at text) → (0 < len) × (at + len ≤ length text)
 gap_ends text at len lt s =
-    let some = some_gap s.0 s.3.fits in
+    let some = gap_some s.0 s.3.fits in
     let whole = ap length s.3.parts ∙ length-append s.0 s.1 in
     (omega (arith, some, s.4), omega (arith, whole, length-drop at text, s.4))
 
 pub token_ends : (text : List ℕ) (at len : ℕ) (kind : TokenKind) → at < length text → IsPiece (pieces.Token kind len) (drop at text) → (0 < len) × (at + len ≤ length text)
 token_ends text at len kind lt s =
-    let some = some_token s.0 s.4.fits in
+    let some = token_some s.0 s.4.fits in
     let whole = ap length s.4.parts ∙ length-append s.0 s.1 in
     (omega (arith, some, s.6), omega (arith, whole, length-drop at text, s.6))
 
@@ -97,7 +98,7 @@ at_end text at le = nil_from_length (drop at text) (omega (arith, length-drop at
 pub front_done : (text : List ℕ) (at : ℕ) (ts : List Token) → length text ≤ at → Front text at ts → Reads text (Ok ts)
 front_done text at ts le f = subst (λ (l : List Token). Reads text (Ok l)) (append-nil ts) (f.goes (Ok []) (subst (λ r. Lexes at r (Ok [])) (sym (at_end text at le)) done))
 
-fault_reads : (at : ℕ) (text : List ℕ) (cause : Cause) → 0 < length text → IsPiece (pieces.Fault cause) text → Lexes at text (Err (fault_at cause at))
+pub fault_reads : (at : ℕ) (text : List ℕ) (cause : Cause) → 0 < length text → IsPiece (pieces.Fault cause) text → Lexes at text (Err (fault_at cause at))
 fault_reads at text cause lt (inl f) = fault cause f
 fault_reads at [] cause lt (inr b) = absurd (omega arith)
 fault_reads at (c ∷ cs) cause lt (inr b) = subst (λ k. Lexes at (c ∷ cs) (Err (fault_at k at))) (sym b.0) (bad_byte c cs b.1 b.2 b.3)
@@ -139,7 +140,7 @@ with_first whole front at text bs rest kind tokens w n e t k s =
     let len : at + length bs + length rest ≡ at + length text = omega (arith, ap length e, length-append bs rest) in
     let here = middle whole front bs rest at (w ∙ ap (λ k. front ++ k) e) n in
     record {
-      order = (omega arith, omega (arith, some_token bs t), subst (λ n. InOrder (at + length bs) n tokens) len s.order);
+      order = (omega arith, omega (arith, token_some bs t), subst (λ n. InOrder (at + length bs) n tokens) len s.order);
       kinds = All-cons (λ t. IsTokenOf t.kind (token_text whole t)) first tokens (subst (IsTokenOf kind) (sym here) k) s.kinds;
     }
 

@@ -14,9 +14,10 @@ use Rattle.rst_lex.specs.Bytes.{EachByte}
 use Rattle.rst_lex.specs.Words.{is_keyword, IsIdentifier}
 use Rattle.rst_lex.specs.Marks.{IsMark}
 use Rattle.rst_lex.specs.Numbers.{IsDecimal, IsSign, is_digit_behind, Based, IsBased, based_text}
-use Rattle.rst_lex.specs.Literals.{width_of, is_signed, IsPlain, IsNone, IsBasedAnswer}
+use Rattle.rst_lex.specs.Literals.{width_of, is_signed, IsPlain, IsNone}
 use Rattle.rst_lex.specs.Tokens.{IsSystem, IsToken, based, Begins}
-use Rattle.rst_lex.specs.Lexing.{IsBasedText, no_number, too_wide, IsTokenOf, IsPiece, IsBasedPiece}
+use Rattle.rst_lex.specs.Lexing.{IsBasedText, no_number, too_wide, IsTokenOf}
+use Rattle.rst_lex.specs.Pieces.{IsBasedAnswer, IsPiece, IsBasedPiece}
 use Rattle.rst_lex.proofs.Shapes.{run_longest, same_front, same_begins}
 use Rattle.rst_lex.proofs.Numbers.{digits_each, same_parts, based_behind, length_based, based_parts}
 use Rattle.rst_lex.proofs.LexFronts.{WordSays, BasedSays}
@@ -150,7 +151,7 @@ literal_piece text size gap tail s l a = (
       (λ n. a.0 (subst (λ d. IsNone s.size d) same.1 (subst (λ z. IsNone z b.digits) same.0 n)), λ w. a.1 (subst (λ z. 64 < width_of z) same.0 w))),
   s.no_gaps,
   begins_token text size gap tail s,
-  inr (found s, found_based text size gap tail s, a.2),
+  inr (found s, found_based text size gap tail s, a.0, a.2),
   found_len text size gap tail s,
 )
 

@@ -1,3 +1,4 @@
+mod MarkShapes
 mod Shapes
 mod SmallPieces
 mod SmallLoop
@@ -10,3 +11,4 @@ mod LexPieces
 mod Worth
 pub mod LexLoop
 mod OneReading
+mod SomeReading

@@ -11,7 +11,7 @@ use Rattle.rst_lex.specs.declared.token.TokenKind.{TokenKind}
 use Rattle.rst_lex.specs.declared.token.TokenKind.TheVariants as kinds
 use Rattle.rst_lex.specs.declared.token.Literal.{Literal}
 use Rattle.rst_lex.specs.Bytes.{is_digit, is_name_start, is_space, is_decimal_byte}
-use Rattle.rst_lex.specs.Marks.{is_mark}
+use Rattle.rst_lex.specs.MarkFronts.{is_mark}
 use Rattle.rst_lex.specs.Numbers.{IsDecimal, IsSize, Based, IsBased}
 use Rattle.rst_lex.specs.Literals.{width_of, is_signed, IsPlain, LiteralOf, HasParts, number, radix_of, digit_value}
 use Rattle.rst_lex.specs.Gaps.{IsGap}
@@ -103,8 +103,8 @@ same_number l m bs (inl p) (inl q) = same_plain l m bs p.1 q.1
 same_number l m bs (inl p) (inr q) = absurd (decimal_no_based bs q.0 p.0 q.1)
 same_number l m bs (inr p) (inl q) = absurd (decimal_no_based bs p.0 q.0 p.1)
 same_number l m bs (inr p) (inr q) =
-    let parts = subst (LiteralOf_of m) (sym (same_based bs p.0 q.0 p.1 q.1)) q.2 in
-    same_parts_of l m (width_of p.0.size) (is_signed p.0.sign) p.0.letter p.0.digits p.2 parts
+    let parts = subst (LiteralOf_of m) (sym (same_based bs p.0 q.0 p.1 q.1)) q.3 in
+    same_parts_of l m (width_of p.0.size) (is_signed p.0.sign) p.0.letter p.0.digits p.3 parts
 
 -- what a token of a kind begins with
 abbrev begins_kind : TokenKind → ℕ → Bool

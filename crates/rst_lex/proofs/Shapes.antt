@@ -4,18 +4,16 @@ use Rattle.std.specs.List.{prefix_len, list_all}
 use Rattle.std.proofs.lemmas.List.Folds.{length-prefix_len}
 use Rattle.std.proofs.lemmas.List.{length-take-le}
 use Rattle.std.proofs.lemmas.Bool.Decides.{nat_tests}
-use Rattle.std.specs.Prelude.{◌&&◌}
+use Rattle.std.proofs.lemmas.Bool.{and_parts}
 use Rattle.rst_lex.specs.Bytes.{is_space, is_digit, is_name_start, is_name_byte, EachByte}
 use Rattle.rst_lex.specs.Words.{IsIdentifier}
-use Rattle.rst_lex.specs.Marks.{is_mark, is_mark_of_two, is_mark_of_three, IsMark, mark_len}
+use Rattle.rst_lex.specs.Marks.{IsMark}
+use Rattle.rst_lex.specs.MarkFronts.{is_mark, is_mark_of_two, is_mark_of_three, mark_len}
 use Rattle.rst_lex.specs.Numbers.{IsSize, Based, IsBased}
 use Rattle.rst_lex.specs.Tokens.{IsSystem, IsToken, identifier, system, decimal, based, mark, Begins}
+use Rattle.rst_lex.proofs.MarkShapes.{MarkShape, mark_shape, shape_mark, no_mark}
 
 -- ---- runs
-
-and_parts : (a b : Bool) → (a && b) ≡ true → (a ≡ true) × (b ≡ true)
-and_parts true b e = (refl, e)
-and_parts false b e = absurd cc
 
 pub each_byte : (p : ℕ → Bool) (bs : List ℕ) → list_all p bs ≡ true → EachByte p bs
 each_byte p [] e = tt
@@ -64,11 +62,14 @@ two_head a b m = grind (arith, nat_tests)
 three_head : (a b c : ℕ) → is_mark_of_three a b c ≡ true → is_mark a ≡ true
 three_head a b c m = grind (arith, nat_tests)
 
+shape_head : (a : ℕ) (bs : List ℕ) → MarkShape (a ∷ bs) → is_mark a ≡ true
+shape_head a [] m = m
+shape_head a (b ∷ []) m = two_head a b m
+shape_head a (b ∷ c ∷ []) m = three_head a b c m
+shape_head a (b ∷ c ∷ d ∷ bs) m = absurd m
+
 pub mark_head : (a : ℕ) (bs : List ℕ) → IsMark (a ∷ bs) → is_mark a ≡ true
-mark_head a [] m = m
-mark_head a (b ∷ []) m = two_head a b m
-mark_head a (b ∷ c ∷ []) m = three_head a b c m
-mark_head a (b ∷ c ∷ d ∷ bs) m = absurd m
+mark_head a bs m = shape_head a bs (mark_shape (a ∷ bs) m)
 
 -- a based literal begins with a digit or '
 pub parts_head : (a : ℕ) (bs size gap more : List ℕ) → a ∷ bs ≡ size ++ (gap ++ 39 ∷ more) → IsSize size gap → (is_digit a ≡ true) ⊎ (a ≡ 39)
@@ -132,7 +133,7 @@ no_empty_token (identifier i) = cc
 no_empty_token (system y) = y
 no_empty_token (decimal d) = d
 no_empty_token (based b i) = no_based b i
-no_empty_token (mark m) = m
+no_empty_token (mark m) = no_mark m
 
 -- ---- marks
 
@@ -149,49 +150,55 @@ two_of_three : (s : Bool) → 2 ≤ cond s 3 2
 two_of_three true = omega arith
 two_of_three false = omega arith
 
-fit1 : (x : ℕ) (u : Bool) → is_mark x ≡ u → 0 < cond u 1 0 → IsMark (take (cond u 1 0) (x ∷ []))
+fit1 : (x : ℕ) (u : Bool) → is_mark x ≡ u → 0 < cond u 1 0 → MarkShape (take (cond u 1 0) (x ∷ []))
 fit1 x true e lt = e
 fit1 x false e lt = absurd (omega arith)
 
-fit2 : (x y : ℕ) (t u : Bool) → is_mark_of_two x y ≡ t → is_mark x ≡ u → 0 < cond t 2 (cond u 1 0) → IsMark (take (cond t 2 (cond u 1 0)) (x ∷ y ∷ []))
+fit2 : (x y : ℕ) (t u : Bool) → is_mark_of_two x y ≡ t → is_mark x ≡ u → 0 < cond t 2 (cond u 1 0) → MarkShape (take (cond t 2 (cond u 1 0)) (x ∷ y ∷ []))
 fit2 x y true u e f lt = e
 fit2 x y false true e f lt = f
 fit2 x y false false e f lt = absurd (omega arith)
 
-fit3 : (x y z : ℕ) (text : List ℕ) (s t u : Bool) → is_mark_of_three x y z ≡ s → is_mark_of_two x y ≡ t → is_mark x ≡ u → 0 < cond s 3 (cond t 2 (cond u 1 0)) → IsMark (take (cond s 3 (cond t 2 (cond u 1 0))) (x ∷ y ∷ z ∷ text))
+fit3 : (x y z : ℕ) (text : List ℕ) (s t u : Bool) → is_mark_of_three x y z ≡ s → is_mark_of_two x y ≡ t → is_mark x ≡ u → 0 < cond s 3 (cond t 2 (cond u 1 0)) → MarkShape (take (cond s 3 (cond t 2 (cond u 1 0))) (x ∷ y ∷ z ∷ text))
 fit3 x y z text true t u d e f lt = d
 fit3 x y z text false true u d e f lt = e
 fit3 x y z text false false true d e f lt = f
 fit3 x y z text false false false d e f lt = absurd (omega arith)
 
-pub mark_longest : (text front behind : List ℕ) → text ≡ front ++ behind → IsMark front → length front ≤ mark_len text
-mark_longest text [] behind e m = absurd m
-mark_longest [] (a ∷ front) behind e m = absurd cc
-mark_longest (x ∷ []) (a ∷ []) behind e m = let h : x ≡ a = cc in rw (ap is_mark h ∙ m) (omega arith)
-mark_longest (x ∷ []) (a ∷ b ∷ front) behind e m = absurd cc
-mark_longest (x ∷ y ∷ []) (a ∷ []) behind e m = let h : x ≡ a = cc in rw (ap is_mark h ∙ m) (one_of_two (is_mark_of_two x y))
-mark_longest (x ∷ y ∷ []) (a ∷ b ∷ []) behind e m =
+shape_longest : (text front behind : List ℕ) → text ≡ front ++ behind → MarkShape front → length front ≤ mark_len text
+shape_longest text [] behind e m = absurd m
+shape_longest [] (a ∷ front) behind e m = absurd cc
+shape_longest (x ∷ []) (a ∷ []) behind e m = let h : x ≡ a = cc in rw (ap is_mark h ∙ m) (omega arith)
+shape_longest (x ∷ []) (a ∷ b ∷ front) behind e m = absurd cc
+shape_longest (x ∷ y ∷ []) (a ∷ []) behind e m = let h : x ≡ a = cc in rw (ap is_mark h ∙ m) (one_of_two (is_mark_of_two x y))
+shape_longest (x ∷ y ∷ []) (a ∷ b ∷ []) behind e m =
     let h : x ≡ a = cc in
     let g : y ≡ b = cc in
     rw ((λ i. is_mark_of_two (h i) (g i)) ∙ m) (omega arith)
-mark_longest (x ∷ y ∷ []) (a ∷ b ∷ c ∷ front) behind e m = absurd cc
-mark_longest (x ∷ y ∷ z ∷ text) (a ∷ []) behind e m = let h : x ≡ a = cc in rw (ap is_mark h ∙ m) (one_of_three (is_mark_of_three x y z) (is_mark_of_two x y))
-mark_longest (x ∷ y ∷ z ∷ text) (a ∷ b ∷ []) behind e m =
+shape_longest (x ∷ y ∷ []) (a ∷ b ∷ c ∷ front) behind e m = absurd cc
+shape_longest (x ∷ y ∷ z ∷ text) (a ∷ []) behind e m = let h : x ≡ a = cc in rw (ap is_mark h ∙ m) (one_of_three (is_mark_of_three x y z) (is_mark_of_two x y))
+shape_longest (x ∷ y ∷ z ∷ text) (a ∷ b ∷ []) behind e m =
     let h : x ≡ a = cc in
     let g : y ≡ b = cc in
     rw ((λ i. is_mark_of_two (h i) (g i)) ∙ m) (two_of_three (is_mark_of_three x y z))
-mark_longest (x ∷ y ∷ z ∷ text) (a ∷ b ∷ c ∷ []) behind e m =
+shape_longest (x ∷ y ∷ z ∷ text) (a ∷ b ∷ c ∷ []) behind e m =
     let h : x ≡ a = cc in
     let g : y ≡ b = cc in
     let f : z ≡ c = cc in
     rw ((λ i. is_mark_of_three (h i) (g i) (f i)) ∙ m) (omega arith)
-mark_longest (x ∷ y ∷ z ∷ text) (a ∷ b ∷ c ∷ d ∷ front) behind e m = absurd m
+shape_longest (x ∷ y ∷ z ∷ text) (a ∷ b ∷ c ∷ d ∷ front) behind e m = absurd m
+
+pub mark_longest : (text front behind : List ℕ) → text ≡ front ++ behind → IsMark front → length front ≤ mark_len text
+mark_longest text front behind e m = shape_longest text front behind e (mark_shape front m)
+
+shape_fits : (text : List ℕ) → 0 < mark_len text → MarkShape (take (mark_len text) text)
+shape_fits [] lt = absurd (omega arith)
+shape_fits (x ∷ []) lt = fit1 x (is_mark x) refl lt
+shape_fits (x ∷ y ∷ []) lt = fit2 x y (is_mark_of_two x y) (is_mark x) refl refl lt
+shape_fits (x ∷ y ∷ z ∷ text) lt = fit3 x y z text (is_mark_of_three x y z) (is_mark_of_two x y) (is_mark x) refl refl refl lt
 
 pub mark_fits : (text : List ℕ) → 0 < mark_len text → IsMark (take (mark_len text) text)
-mark_fits [] lt = absurd (omega arith)
-mark_fits (x ∷ []) lt = fit1 x (is_mark x) refl lt
-mark_fits (x ∷ y ∷ []) lt = fit2 x y (is_mark_of_two x y) (is_mark x) refl refl lt
-mark_fits (x ∷ y ∷ z ∷ text) lt = fit3 x y z text (is_mark_of_three x y z) (is_mark_of_two x y) (is_mark x) refl refl refl lt
+mark_fits text lt = shape_mark (take (mark_len text) text) (shape_fits text lt)
 
 len1 : (u : Bool) → cond u 1 0 ≤ 1
 len1 true = omega arith
@@ -266,9 +273,9 @@ other_longest a bs (x ∷ front) behind m e (based b i) =
     absurd (elim (based_head x front b i) [ inl d ↦ mark_no_digit a m (ap is_digit h ∙ d) | inr q ↦ quote_no_mark a m (h ∙ q) ])
 other_longest a bs (x ∷ front) behind m e (mark n) = mark_longest (a ∷ bs) (x ∷ front) behind e n
 
-some_mark : (text : List ℕ) → 0 < length text → IsMark (take 1 text) → 0 < mark_len text
+some_mark : (text : List ℕ) → 0 < length text → MarkShape (take 1 text) → 0 < mark_len text
 some_mark [] lt m = absurd (omega arith)
-some_mark (x ∷ text) lt m = omega (arith, mark_longest (x ∷ text) (x ∷ []) text refl m)
+some_mark (x ∷ text) lt m = omega (arith, shape_longest (x ∷ text) (x ∷ []) text refl m)
 
 pub begins_mark : (a : ℕ) (bs : List ℕ) → is_mark a ≡ true → let k = mark_len (a ∷ bs) in
     Begins IsToken (a ∷ bs) (take k (a ∷ bs)) (drop k (a ∷ bs)) × IsMark (take k (a ∷ bs)) × (length (take k (a ∷ bs)) ≡ k)

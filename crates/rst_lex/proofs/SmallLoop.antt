@@ -16,7 +16,9 @@ use Rattle.rst_lex.specs.Bytes.{is_blank}
 use Rattle.rst_lex.specs.Words.{IsIdentifier}
 use Rattle.rst_lex.specs.Marks.{IsMark}
 use Rattle.rst_lex.specs.Tokens.{IsToken, Begins, token_text}
-use Rattle.rst_lex.specs.Small.{IsBit, IsBitLiteral, IsSmallTokenOf, SmallTokensFrom, done, blank, token, SmallTokens, InOrder, IsSmallPiece}
+use Rattle.rst_lex.specs.Small.{IsBit, IsBitLiteral, IsSmallTokenOf, SmallTokensFrom, done, blank, token, SmallTokens, InOrder}
+use Rattle.rst_lex.specs.Pieces.{IsSmallPiece}
+use Rattle.rst_lex.proofs.MarkShapes.{no_mark}
 use Rattle.rst_lex.proofs.Shapes.{same_begins, no_empty_token, token_no_space, identifier_head, mark_head, mark_no_name}
 use Rattle.rst_lex.proofs.SmallPieces.{name_identifier, name_no_keyword, listed_mark, bit_head, bit_some, small_is_keyword, blank_space, one_no_name, one_no_mark}
 
@@ -48,7 +50,7 @@ one_bit l m bs (inr b) (inl c) = absurd (zero_or_one bs c.0 b.0)
 one_bit l m bs (inr b) (inr c) = bit_is l 1 m b.1 c.1
 
 identifier_no_mark : (bs : List ℕ) → IsIdentifier bs → IsMark bs → ⊥
-identifier_no_mark [] i m = m
+identifier_no_mark [] i m = no_mark m
 identifier_no_mark (a ∷ bs) i m = mark_no_name a (identifier_head a bs i) (mark_head a bs m)
 
 identifier_no_bit : (bs : List ℕ) (l : Literal) → IsIdentifier bs → IsBitLiteral l bs → ⊥
@@ -56,7 +58,7 @@ identifier_no_bit [] l i b = bit_some l b
 identifier_no_bit (a ∷ bs) l i b = one_no_name a (bit_head l a bs b) (identifier_head a bs i)
 
 mark_no_bit : (bs : List ℕ) (l : Literal) → IsMark bs → IsBitLiteral l bs → ⊥
-mark_no_bit [] l m b = m
+mark_no_bit [] l m b = no_mark m
 mark_no_bit (a ∷ bs) l m b = one_no_mark a (bit_head l a bs b) (mark_head a bs m)
 
 -- a token of the small form has one kind

@@ -3,8 +3,7 @@ use Rattle.std.proofs.Common.{◌≡◌, ℕ, zero, suc, ◌+◌, ◌<◌, ◌�
 use Rattle.std.specs.List.{prefix_len}
 use Rattle.std.proofs.lemmas.Bool.Decides.{nat_tests}
 use Rattle.std.proofs.lemmas.Bool.{eqb-true}
-use Rattle.std.proofs.lemmas.Slice.Eq.{bytes_eq-Decides}
-use Rattle.std.specs.Prelude.{◌||◌, ◌&&◌, ◌==◌, not, bytes_eq}
+use Rattle.std.specs.Prelude.{◌||◌, ◌&&◌, ◌==◌, not}
 use Rattle.rst_lex.specs.declared.token.TokenKind.{TokenKind}
 use Rattle.rst_lex.specs.declared.token.TokenKind.TheVariants as kinds
 use Rattle.rst_lex.specs.declared.token.Token.{Token}
@@ -13,37 +12,27 @@ use Rattle.rst_lex.specs.declared.small_front.SmallFront.{SmallFront}
 use Rattle.rst_lex.specs.declared.small_front.SmallFront.TheVariants as fronts
 use Rattle.rst_lex.specs.declared.small.SmallPiece.TheVariants as pieces
 use Rattle.rst_lex.specs.Bytes.{is_blank, is_space, is_name_start, is_name_byte, is_binary_digit, is_decimal_byte, EachByte}
-use Rattle.rst_lex.specs.Words.{is_listed, is_profile_keyword, is_refused_keyword, is_keyword, is_small_keyword, is_small_mark, is_identifier, IsIdentifier, IsName}
-use Rattle.rst_lex.specs.Marks.{is_mark, IsMark, mark_len}
+use Rattle.rst_lex.specs.Words.{small_keywords, small_marks, is_profile_keyword, is_refused_keyword, is_keyword, is_small_keyword, is_small_mark, is_identifier, IsIdentifier, IsName}
+use Rattle.rst_lex.specs.Marks.{IsMark}
+use Rattle.rst_lex.specs.MarkFronts.{is_mark, mark_len}
 use Rattle.rst_lex.specs.Numbers.{IsDecimal, IsSize, IsSign, IsDigitsBehind, is_digit_behind, Based, IsBased, based_text}
 use Rattle.rst_lex.specs.Tokens.{IsToken, identifier, system, decimal, based, mark, Begins}
-use Rattle.rst_lex.specs.Small.{IsBit, IsBitLiteral, IsSmallTokenOf, SmallTokensFrom, blank, token, IsSmallPiece}
+use Rattle.rst_lex.specs.Small.{IsBit, IsBitLiteral, IsSmallTokenOf, SmallTokensFrom, blank, token}
+use Rattle.rst_lex.specs.Pieces.{IsSmallPiece}
 use Rattle.rst_lex.specs.SmallFronts.{word_front, goes_on, begins_with_bit, mark_front, small_front}
+use Rattle.rst_lex.proofs.MarkShapes.{of_kind, no_mark}
 use Rattle.rst_lex.proofs.Shapes.{identifier_head, mark_head, mark_no_name, same_begins, begins_identifier, begins_mark, no_empty_token, system_head}
 
 -- ---- the small form's tokens among all
 
--- a word of a list, each word of which is of a kind, is of that kind
-abbrev EachWord : (List ℕ → Type 0) → List (List ℕ) → Type 0
-EachWord Kind [] = Unit {0}
-EachWord Kind (word ∷ words) = Kind word × EachWord Kind words
-
-of_kind : (Kind : List ℕ → Type 0) (words : List (List ℕ)) (bs : List ℕ) → EachWord Kind words → is_listed words bs ≡ true → Kind bs
-of_kind Kind [] bs each e = absurd cc
-of_kind Kind (word ∷ words) bs each e = here (bytes_eq word bs) refl e (λ h. of_kind Kind words bs each.1 h)
-  where
-    here : (t : Bool) → bytes_eq word bs ≡ t → (t || is_listed words bs) ≡ true → (is_listed words bs ≡ true → Kind bs) → Kind bs
-    here true h e others = subst Kind ((bytes_eq-Decides word bs).0 h) each.0
-    here false h e others = others e
-
 -- a small mark is a mark
 pub listed_mark : (bs : List ℕ) → is_small_mark bs ≡ true → IsMark bs
 unfolding is_small_mark
-listed_mark bs e = of_kind IsMark (codes "(" ∷ codes ")" ∷ codes "," ∷ codes ";" ∷ codes "@" ∷ codes "<=" ∷ codes "~" ∷ []) bs (refl, (refl, (refl, (refl, (refl, (refl, (refl, tt))))))) e
+listed_mark bs e = of_kind IsMark small_marks bs (refl, (refl, (refl, (refl, (refl, (refl, (refl, tt))))))) e
 
 pub small_is_keyword : (bs : List ℕ) → is_small_keyword bs ≡ true → is_keyword bs ≡ true
 unfolding is_small_keyword is_profile_keyword is_refused_keyword
-small_is_keyword bs e = of_kind (λ w. is_keyword w ≡ true) (codes "module" ∷ codes "endmodule" ∷ codes "input" ∷ codes "output" ∷ codes "reg" ∷ codes "always" ∷ codes "posedge" ∷ codes "if" ∷ codes "else" ∷ []) bs (refl, (refl, (refl, (refl, (refl, (refl, (refl, (refl, (refl, tt))))))))) e
+small_is_keyword bs e = of_kind (λ w. is_keyword w ≡ true) small_keywords bs (refl, (refl, (refl, (refl, (refl, (refl, (refl, (refl, (refl, tt))))))))) e
 
 pub name_identifier : (bs : List ℕ) → IsName bs → IsIdentifier bs
 name_identifier bs n = first (is_identifier bs) (is_keyword bs) n
@@ -82,7 +71,7 @@ bit_some l (inl h) = let e = h.0 in cc
 bit_some l (inr h) = let e = h.0 in cc
 
 small_mark_some : is_small_mark [] ≡ true → ⊥
-small_mark_some e = listed_mark [] e
+small_mark_some e = no_mark (listed_mark [] e)
 
 -- where an identifier begins, a small token is that word: a name that is no keyword, or a keyword of the small form
 word_kind : (a : ℕ) (bs : List ℕ) → is_name_start a ≡ true → (kind : TokenKind) → IsSmallTokenOf kind (a ∷ bs) → (is_small_keyword (a ∷ bs) ≡ true) ⊎ (is_keyword (a ∷ bs) ≡ false)
@@ -347,7 +336,7 @@ empty_mark : (a : ℕ) (bs : List ℕ) → is_mark a ≡ false → is_small_mark
 empty_mark a bs m = by_test (is_small_mark (take (mark_len (a ∷ bs)) (a ∷ bs))) refl
   where
     head : (k : ℕ) → IsMark (take k (a ∷ bs)) → is_mark a ≡ true
-    head zero n = absurd n
+    head zero n = absurd (no_mark n)
     head (suc k) n = mark_head a (take k bs) n
 
     by_test : (t : Bool) → is_small_mark (take (mark_len (a ∷ bs)) (a ∷ bs)) ≡ t → t ≡ false

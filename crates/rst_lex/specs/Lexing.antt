@@ -1,19 +1,17 @@
 -- The tokens of a text, each the longest that fits, or the first fault.
-use Rattle.std.specs.Prelude.{◌≡◌, ℕ, ◌+◌, ◌<◌, List, [], ◌∷◌, ◌++◌, length, ◌⊎◌, Result, Ok, Err, nat_lt}
-use Rattle.rst_lex.specs.declared.front.Tail.{Tail}
+use Rattle.std.specs.Prelude.{◌≡◌, ℕ, ◌+◌, ◌<◌, List, [], ◌∷◌, ◌++◌, length, ◌⊎◌, Result, Ok, Err, Option, Some, None}
+use Prim.Native.Char.{code}
 use Rattle.rst_lex.specs.declared.token.TokenKind.{TokenKind}
 use Rattle.rst_lex.specs.declared.token.TokenKind.TheVariants as kinds
 use Rattle.rst_lex.specs.declared.token.Token.{Token}
 use Rattle.rst_lex.specs.declared.lexer.LexFault.{LexFault}
 use Rattle.rst_lex.specs.declared.lexer.LexFault.TheVariants as faults
-use Rattle.rst_lex.specs.declared.piece.Piece.{Piece}
-use Rattle.rst_lex.specs.declared.piece.Piece.TheVariants as pieces
 use Rattle.rst_lex.specs.declared.front.Cause.{Cause}
 use Rattle.rst_lex.specs.declared.front.Cause.TheVariants as causes
 use Rattle.rst_lex.specs.Words.{IsName, IsIdentifier, IsKeyword}
 use Rattle.rst_lex.specs.Marks.{IsMark}
 use Rattle.rst_lex.specs.Numbers.{IsDecimal, IsSize, Based, IsBased}
-use Rattle.rst_lex.specs.Literals.{HasParts, IsPlain, IsNone, IsBasedAnswer, width_of}
+use Rattle.rst_lex.specs.Literals.{HasParts, IsPlain, IsNone, width_of}
 use Rattle.rst_lex.specs.Gaps.{OpensBlock, IsBlock, OpensAttribute, IsAttribute, OpensDirective, IsGap}
 use Rattle.rst_lex.specs.Tokens.{IsSystem, IsToken, Begins}
 
@@ -33,7 +31,7 @@ pub record OpensBased (text : List ℕ) : Type 0 where
   pub size : List ℕ
   pub gap : List ℕ
   pub more : List ℕ
-  pub parts : text ≡ size ++ (gap ++ 39 ∷ more)
+  pub parts : text ≡ size ++ (gap ++ code "'" ∷ more)
   pub sized : IsSize size gap
 
 -- A thing begins the text that is faulty whatever stands behind it.
@@ -48,14 +46,16 @@ pub data IsFault (text : List ℕ) : Cause → Type 0 where
 abbrev pub IsSound : List ℕ → Type 0
 IsSound text = (cause : Cause) → IsFault text cause → ⊥
 
--- The bytes are a token of this kind.
+-- The bytes are a token of this kind. A number is a plain decimal, or a based literal whose size is not 0 and which has
+-- no digit x; that its size is at most 64 is said by the literal's own width.
 abbrev pub IsTokenOf : TokenKind → List ℕ → Type 0
 IsTokenOf kinds.Name bs = IsName bs
 IsTokenOf kinds.System bs = IsSystem bs
 IsTokenOf kinds.Keyword bs = IsIdentifier bs × IsKeyword bs
-IsTokenOf (kinds.Number literal) bs = (IsDecimal bs × IsPlain literal bs) ⊎ ((b : Based) × IsBased bs b × HasParts literal b)
+IsTokenOf (kinds.Number literal) bs = (IsDecimal bs × IsPlain literal bs) ⊎ ((b : Based) × IsBased bs b × (IsNoNumber b → ⊥) × HasParts literal b)
 IsTokenOf kinds.Mark bs = IsMark bs
 
+-- a text's tokens, or its fault
 abbrev pub Answer : Type 0
 Answer = Result (List Token) LexFault
 
@@ -72,6 +72,15 @@ fault_at causes.BadNumber at = faults.BadNumber at
 fault_at causes.NumberTooWide at = faults.NumberTooWide at
 fault_at causes.BadByte at = faults.BadByte at
 
+-- the byte where the faulty thing begins, which a want of memory has not
+abbrev pub place_of : LexFault → Option ℕ
+place_of (faults.OpenComment at) = Some at
+place_of (faults.Directive at) = Some at
+place_of (faults.BadNumber at) = Some at
+place_of (faults.NumberTooWide at) = Some at
+place_of (faults.BadByte at) = Some at
+place_of faults.NoMemory = None
+
 -- What the text that begins at this place is read as: its tokens, or its first fault.
 pub data Lexes : ℕ → List ℕ → Answer → Type 0 where
   done : {at : ℕ} → Lexes at [] (Ok [])
@@ -84,15 +93,3 @@ pub data Lexes : ℕ → List ℕ → Answer → Type 0 where
 -- What a text is read as: its tokens, or its first fault.
 abbrev pub Reads : List ℕ → Answer → Type 0
 Reads text answer = Lexes 0 text answer
-
--- What stands at the front of a text: a gap or a token and how many bytes it has, or a fault.
-abbrev pub IsPiece : Piece → List ℕ → Type 0
-IsPiece (pieces.Gap len) text = (bs : List ℕ) × (rest : List ℕ) × IsSound text × Begins IsGap text bs rest × (length bs ≡ len)
-IsPiece (pieces.Token kind len) text = (bs : List ℕ) × (rest : List ℕ) × IsSound text × Nowhere IsGap text × Begins IsToken text bs rest × IsTokenOf kind bs × (length bs ≡ len)
-IsPiece (pieces.Fault cause) text = IsFault text cause ⊎ ((cause ≡ causes.BadByte) × IsSound text × Nowhere IsGap text × Nowhere IsToken text)
-
--- what is made of these parts of a based literal, which has so many bytes
-abbrev pub IsBasedPiece : Piece → List ℕ → Tail → List ℕ → ℕ → Type 0
-IsBasedPiece (pieces.Token (kinds.Number literal) len) size tail digits count = (len ≡ count) × IsBasedAnswer (Ok literal) size (nat_lt 0 tail.sign) tail.letter digits
-IsBasedPiece (pieces.Fault cause) size tail digits count = IsBasedAnswer (Err cause) size (nat_lt 0 tail.sign) tail.letter digits
-IsBasedPiece piece size tail digits count = ⊥

@@ -1,20 +1,19 @@
 -- What numbers are worth (IEEE 1364-2001, section 2.5).
-use Rattle.std.specs.Prelude.{◌≡◌, ℕ, ◌+◌, ◌-◌, ◌*◌, ◌^◌, ◌%◌, ◌==◌, Bool, true, false, ◌||◌, ◌&&◌, not, nat_le, List, [], ◌∷◌, count_by, if◌then◌else◌, bit_and, ◌<◌, ◌⊎◌, IsTrue, Result, Ok, Err}
+use Rattle.std.specs.Prelude.{◌≡◌, ℕ, ◌+◌, ◌-◌, ◌*◌, ◌^◌, ◌%◌, ◌==◌, Bool, true, false, ◌||◌, not, List, [], ◌∷◌, count_by, if◌then◌else◌, bit_and, ◌⊎◌, IsTrue}
 use Rattle.std.specs.Int.{bit_not, w64}
 use Rattle.std.specs.List.{list_any}
+use Prim.Native.Char.{code}
 use Rattle.rst_lex.specs.declared.token.Literal.{Literal}
-use Rattle.rst_lex.specs.declared.front.Cause.{Cause}
-use Rattle.rst_lex.specs.declared.front.Cause.TheVariants as causes
-use Rattle.rst_lex.specs.Bytes.{is_digit}
+use Rattle.rst_lex.specs.Bytes.{is_between, is_digit}
 use Rattle.rst_lex.specs.Numbers.{Based}
 
 -- what a digit is worth: a letter from a or A on counts from 10, and x, z and ? count nothing
 abbrev pub digit_value : ℕ → ℕ
-digit_value b = if is_digit b then b - 48 else (if nat_le 65 b && nat_le b 70 then b - 55 else (if nat_le 97 b && nat_le b 102 then b - 87 else 0))
+digit_value b = if is_digit b then b - code "0" else (if is_between "A" "F" b then b - code "A" + 10 else (if is_between "a" "f" b then b - code "a" + 10 else 0))
 
 -- _ stands between digits and is none
 abbrev pub is_counted : ℕ → Bool
-is_counted b = not (b == 95)
+is_counted b = not (b == code "_")
 
 abbrev pub digit_count : List ℕ → ℕ
 digit_count bs = count_by is_counted bs
@@ -29,18 +28,18 @@ decimal_number bs = number 10 digit_value bs
 
 -- the bits of one digit behind b, o and h
 abbrev pub digit_bits : ℕ → ℕ
-digit_bits letter = if (letter == 98) || (letter == 66) then 1 else (if (letter == 111) || (letter == 79) then 3 else 4)
+digit_bits letter = if (letter == code "b") || (letter == code "B") then 1 else (if (letter == code "o") || (letter == code "O") then 3 else 4)
 
 abbrev pub radix_of : ℕ → ℕ
-radix_of letter = if (letter == 100) || (letter == 68) then 10 else 2 ^ digit_bits letter
+radix_of letter = if (letter == code "d") || (letter == code "D") then 10 else 2 ^ digit_bits letter
 
 -- z, Z and ? stand for bits that match anything
 abbrev pub is_masked : ℕ → Bool
-is_masked b = (b == 122) || (b == 90) || (b == 63)
+is_masked b = (b == code "z") || (b == code "Z") || (b == code "?")
 
 -- x and X are digits that no number of the profile may have
 abbrev pub is_unknown : ℕ → Bool
-is_unknown b = (b == 120) || (b == 88)
+is_unknown b = (b == code "x") || (b == code "X")
 
 abbrev pub begins_masked : List ℕ → Bool
 begins_masked [] = false
@@ -81,15 +80,6 @@ HasParts literal b = LiteralOf literal (width_of b.size) (is_signed b.sign) b.le
 -- A size of 0, or a digit x: no number.
 abbrev pub IsNone : List ℕ → List ℕ → Type 0
 IsNone size digits = (width_of size ≡ 0) ⊎ IsTrue (list_any is_unknown digits)
-
--- the literal of these parts, or why they are none
-abbrev pub IsBasedAnswer : Result Literal Cause → List ℕ → Bool → ℕ → List ℕ → Type 0
-IsBasedAnswer (Ok literal) size signed letter digits = (IsNone size digits → ⊥) × (64 < width_of size → ⊥) × LiteralOf literal (width_of size) signed letter digits
-IsBasedAnswer (Err causes.BadNumber) size signed letter digits = IsNone size digits
-IsBasedAnswer (Err causes.NumberTooWide) size signed letter digits = (IsNone size digits → ⊥) × (64 < width_of size)
-IsBasedAnswer (Err causes.BadByte) size signed letter digits = ⊥
-IsBasedAnswer (Err causes.OpenComment) size signed letter digits = ⊥
-IsBasedAnswer (Err causes.Directive) size signed letter digits = ⊥
 
 -- a plain decimal: 32 bits, signed, cut to them
 pub record IsPlain (literal : Literal) (bs : List ℕ) : Type 0 where

@@ -7,8 +7,6 @@ use Rattle.rst_lex.specs.declared.token.Literal.{Literal}
 use Rattle.rst_lex.specs.declared.token.TokenKind.{TokenKind}
 use Rattle.rst_lex.specs.declared.token.TokenKind.TheVariants as kinds
 use Rattle.rst_lex.specs.declared.token.Token.{Token}
-use Rattle.rst_lex.specs.declared.small.SmallPiece.{SmallPiece}
-use Rattle.rst_lex.specs.declared.small.SmallPiece.TheVariants as pieces
 use Rattle.rst_lex.specs.Bytes.{is_blank}
 use Rattle.rst_lex.specs.Words.{is_small_keyword, is_small_mark, IsName, IsIdentifier}
 use Rattle.rst_lex.specs.Tokens.{IsToken, Begins}
@@ -47,9 +45,3 @@ SmallTokens text tokens = SmallTokensFrom 0 text tokens
 abbrev pub InOrder : ℕ → ℕ → List Token → Type 0
 InOrder from len [] = from ≤ len
 InOrder from len (first ∷ tokens) = (from ≤ first.start) × (first.start < first.end) × InOrder first.end len tokens
-
--- What the small form has at the front of a text: a blank, a token and how many bytes it has, or nothing.
-abbrev pub IsSmallPiece : SmallPiece → List ℕ → Type 0
-IsSmallPiece pieces.Blank text = (b : ℕ) × (rest : List ℕ) × (text ≡ b ∷ rest) × IsTrue (is_blank b)
-IsSmallPiece (pieces.Token kind len) text = (bs : List ℕ) × (rest : List ℕ) × Begins IsToken text bs rest × IsSmallTokenOf kind bs × (length bs ≡ len)
-IsSmallPiece pieces.Other text = (at : ℕ) (tokens : List Token) → SmallTokensFrom at text tokens → ⊥

@@ -1,11 +1,12 @@
 -- What the small form has at the front of a text.
 use Rattle.std.specs.Prelude.{ℕ, ◌+◌, ◌==◌, Bool, false, ◌&&◌, not, List, [], ◌∷◌, length, take, if◌then◌else◌}
 use Rattle.std.specs.List.{prefix_len}
+use Prim.Native.Char.{code}
 use Rattle.rst_lex.specs.declared.small_front.SmallFront.{SmallFront}
 use Rattle.rst_lex.specs.declared.small_front.SmallFront.TheVariants as fronts
 use Rattle.rst_lex.specs.Bytes.{is_blank, is_name_start, is_name_byte, is_binary_digit}
 use Rattle.rst_lex.specs.Words.{is_keyword, is_small_keyword, is_small_mark}
-use Rattle.rst_lex.specs.Marks.{mark_len}
+use Rattle.rst_lex.specs.MarkFronts.{mark_len}
 
 -- an identifier
 unfoldable pub word_front : List ℕ → SmallFront
@@ -21,7 +22,7 @@ begins_with_bit bit [] = false
 begins_with_bit bit (a ∷ []) = false
 begins_with_bit bit (a ∷ b ∷ []) = false
 begins_with_bit bit (a ∷ b ∷ c ∷ []) = false
-begins_with_bit bit (a ∷ b ∷ c ∷ d ∷ rest) = (a == 49) && (b == 39) && (c == 98) && (d == 48 + bit) && not (goes_on rest)
+begins_with_bit bit (a ∷ b ∷ c ∷ d ∷ rest) = (a == code "1") && (b == code "'") && (c == code "b") && (d == code "0" + bit) && not (goes_on rest)
 
 -- the longest mark
 unfoldable pub mark_front : List ℕ → SmallFront

@@ -1,5 +1,6 @@
 -- The texts of tokens, and how a text begins with one.
 use Rattle.std.specs.Prelude.{◌≡◌, ℕ, ◌≤◌, List, [], ◌∷◌, ◌++◌, length, slice_range}
+use Prim.Native.Char.{code}
 use Rattle.rst_lex.specs.declared.token.Token.{Token}
 use Rattle.rst_lex.specs.Bytes.{is_name_byte, EachByte}
 use Rattle.rst_lex.specs.Words.{IsIdentifier}
@@ -10,7 +11,7 @@ use Rattle.rst_lex.specs.Numbers.{IsDecimal, Based, IsBased}
 abbrev pub IsSystem : List ℕ → Type 0
 IsSystem [] = ⊥
 IsSystem (a ∷ []) = ⊥
-IsSystem (a ∷ b ∷ bs) = (a ≡ 36) × EachByte is_name_byte (b ∷ bs)
+IsSystem (a ∷ b ∷ bs) = (a ≡ code "$") × EachByte is_name_byte (b ∷ bs)
 
 -- the text of a token
 pub data IsToken (bs : List ℕ) : Type 0 where

@@ -3,7 +3,7 @@ ghost use Rattle.std.specs.Prelude.{◌≡◌, ◌≤◌, length};
 ghost use Rattle.std.specs.List.{prefix_len};
 ghost use Rattle.rst_lex.specs.Bytes.{is_blank, is_letter, is_digit, is_name_start, is_name_byte, is_binary_digit, is_space, is_decimal_byte, is_open_digit};
 ghost use Rattle.rst_lex.specs.Numbers.{is_octal_digit, is_hex_digit, is_digit_behind};
-ghost use Rattle.rst_lex.specs.Marks.{is_mark, is_mark_of_two, is_mark_of_three, mark_len};
+ghost use Rattle.rst_lex.specs.MarkFronts.{is_mark, is_mark_of_two, is_mark_of_three, mark_len};
 
 pub(crate) fn is_blank(b: u8) -> bool
     ensures { result ≡ is_blank b }

@@ -11,7 +11,7 @@ use crate::bytes::{
 };
 
 /// Why no token can be read.
-#[derive(Clone, Copy, PartialEq, Eq, Debug)]
+#[derive(Clone, Copy)]
 pub(crate) enum Cause {
     BadByte,
     OpenComment,
@@ -21,7 +21,7 @@ pub(crate) enum Cause {
 }
 
 // How many bytes each part of a based literal has behind its '.
-#[derive(Clone, Copy, PartialEq, Eq, Debug)]
+#[derive(Clone, Copy)]
 pub(crate) struct Tail {
     pub(crate) sign: usize,
     pub(crate) letter: u8,
@@ -29,7 +29,7 @@ pub(crate) struct Tail {
     pub(crate) digits: usize,
 }
 
-#[derive(Clone, Copy, PartialEq, Eq, Debug)]
+#[derive(Clone, Copy)]
 pub(crate) enum Front {
     Gap(usize),
     Word(usize),

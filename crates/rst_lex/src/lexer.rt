@@ -1,9 +1,9 @@
 //! The tokens of a whole text.
-ghost use Rattle.std.specs.Prelude.{◌≡◌, ◌≢◌, ◌≤◌, length, IfOk, IfErr, Ok, Err, All};
+ghost use Rattle.std.specs.Prelude.{◌≡◌, ◌≢◌, ◌≤◌, ◌<◌, length, IfOk, IfErr, IfSome, Some, Ok, Err, All};
 ghost use Rattle.rst_lex.specs.declared.lexer.LexFault.TheVariants.{NoMemory};
 ghost use Rattle.rst_lex.specs.Tokens.{token_text};
 ghost use Rattle.rst_lex.specs.Small.{InOrder};
-ghost use Rattle.rst_lex.specs.Lexing.{Reads, fault_at, IsTokenOf};
+ghost use Rattle.rst_lex.specs.Lexing.{Reads, fault_at, place_of, IsTokenOf};
 
 use crate::front::Cause;
 use crate::piece::{Piece, text_piece};
@@ -44,7 +44,8 @@ impl<T: Drop> From<AllocFailed<T>> for LexFault {
 }
 
 fn fault_at(cause: Cause, at: u32) -> LexFault
-    ensures { result ≡ fault_at cause at }
+    ensures value { result ≡ fault_at cause at }
+    ensures place { place_of result ≡ Some at }
 {
     match cause {
         Cause::BadByte => LexFault::BadByte(at),
@@ -59,11 +60,12 @@ fn fault_at(cause: Cause, at: u32) -> LexFault
 /// the first fault in the text.
 ///
 /// White space, comments, attributes and the directives `timescale` and `default_nettype` stand between
-/// tokens. A fault carries the byte where the faulty thing begins. `NoMemory` comes only where memory runs out.
+/// tokens. A fault carries the byte of the text where the faulty thing begins. `NoMemory` comes only where memory runs out.
 pub fn lex(alloc: Global, text: &[u8]) -> Result<Vec<Token>, LexFault>
     requires { length text.now ≤ 1048576 }
     ensures tokens { IfOk result (λ v. Reads text.now (Ok v.items)) }
     ensures fault { IfErr result (λ fault. fault ≢ NoMemory → Reads text.now (Err fault)) }
+    ensures place { IfErr result (λ fault. IfSome (place_of fault) (λ at. at < length text.now)) }
     ensures order { IfOk result (λ v. InOrder 0 (length text.now) v.items) }
     ensures kinds { IfOk result (λ v. All (λ token. IsTokenOf token.kind (token_text text.now token)) v.items) }
 {

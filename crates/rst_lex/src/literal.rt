@@ -2,7 +2,8 @@
 ghost use Rattle.std.specs.Prelude.{◌≡◌, ◌≢◌, ◌≤◌, ◌<◌, ◌+◌, ◌-◌, ◌*◌, ◌^◌, ◌%◌, length, min, MatchResult, IsTrue, bit_and};
 ghost use Rattle.std.specs.Int.{bit_not, w64};
 ghost use Rattle.std.specs.List.{list_any};
-ghost use Rattle.rst_lex.specs.Literals.{digit_value, digit_count, number, decimal_number, digit_bits, radix_of, is_masked, is_unknown, begins_masked, width_of, missing_bits, mask_digit, mask_of, IsPlain, LiteralOf, IsBasedAnswer};
+ghost use Rattle.rst_lex.specs.Literals.{digit_value, digit_count, number, decimal_number, digit_bits, radix_of, is_masked, is_unknown, begins_masked, width_of, missing_bits, mask_digit, mask_of, IsPlain, LiteralOf};
+ghost use Rattle.rst_lex.specs.Pieces.{IsBasedAnswer};
 
 use crate::bytes::is_digit;
 use crate::front::Cause;

@@ -2,14 +2,14 @@
 ghost use Rattle.std.specs.Prelude.{◌≡◌, ◌≤◌, ◌<◌, ◌^◌, ◌+◌, length, take, drop, if◌then◌else◌};
 ghost use Rattle.rst_lex.specs.Words.{is_keyword};
 ghost use Rattle.rst_lex.specs.Literals.{IsPlain};
-ghost use Rattle.rst_lex.specs.Lexing.{IsPiece, IsBasedPiece};
+ghost use Rattle.rst_lex.specs.Pieces.{IsPiece, IsBasedPiece};
 
 use crate::front::{Cause, Front, Tail, text_front};
 use crate::literal::{based, plain};
 use crate::token::{Literal, TokenKind};
 use crate::words::is_keyword;
 
-#[derive(Clone, Copy, PartialEq, Eq, Debug)]
+#[derive(Clone, Copy)]
 pub(crate) enum Piece {
     Gap(usize),
     Token(TokenKind, usize),

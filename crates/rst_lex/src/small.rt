@@ -2,14 +2,15 @@
 ghost use Rattle.std.specs.Prelude.{◌≡◌, ◌≤◌, ◌<◌, ◌^◌, ℕ, List, length, IfOk, IfSome, IfNone, All};
 ghost use Rattle.rst_lex.specs.declared.token.Token.{Token};
 ghost use Rattle.rst_lex.specs.Tokens.{token_text};
-ghost use Rattle.rst_lex.specs.Small.{SmallTokens, InOrder, IsSmallTokenOf, IsSmallPiece, IsBit};
+ghost use Rattle.rst_lex.specs.Small.{SmallTokens, InOrder, IsSmallTokenOf, IsBit};
+ghost use Rattle.rst_lex.specs.Pieces.{IsSmallPiece};
 
 use crate::small_front::{SmallFront, small_front};
 use crate::token::{Literal, Token, TokenKind};
 use rst_outside::NoMemory;
 use std::alloc::Global;
 
-#[derive(Clone, Copy, PartialEq, Eq, Debug)]
+#[derive(Clone, Copy)]
 enum SmallPiece {
     Blank,
     Token(TokenKind, usize),

@@ -5,7 +5,7 @@ ghost use Rattle.rst_lex.specs.SmallFronts.{word_front, goes_on, begins_with_bit
 use crate::bytes::{is_binary_digit, is_blank, is_name_start, mark_len, name_len};
 use crate::words::{is_keyword, is_small_keyword, is_small_mark};
 
-#[derive(Clone, Copy, PartialEq, Eq, Debug)]
+#[derive(Clone, Copy)]
 pub(crate) enum SmallFront {
     Blank,
     Name(usize),

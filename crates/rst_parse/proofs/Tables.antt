@@ -1,5 +1,5 @@
 -- What holds of each word of a list holds of a text that is listed.
-use Rattle.std.proofs.Common.{◌≡◌, ℕ, Bool, true, false, not, ◌||◌, List, [], ◌∷◌, Option, Some, None, refl, sym, subst, inl, inr, bytes_eq}
+use Rattle.std.proofs.Common.{◌≡◌, ℕ, Bool, true, false, not, List, [], ◌∷◌, Option, Some, None, refl, sym, subst, inl, inr, bytes_eq}
 use Rattle.std.specs.List.{list_all}
 use Rattle.std.specs.Option.{is_none, option_map}
 use Rattle.std.proofs.lemmas.Bool.{and_parts, or_cases}
@@ -20,18 +20,6 @@ each_listed p (word ∷ words) text all is =
       | inl same ↦ subst (λ (t : List ℕ). p t ≡ true) (same_bytes word text same) parts.0
       | inr more ↦ each_listed p words text parts.1 more
     ]
-
--- What holds at each of these numbers holds where one of the tests passes, the first of which stands in front.
-abbrev pub any_of : {K : Type 0} → (K → Bool) → Bool → List K → Bool
-any_of test first [] = first
-any_of test first (k ∷ ks) = any_of test (first || test k) ks
-
-pub any_says : {K : Type 0} (test p : K → Bool) (Q : Type 0) (first : Bool) (ks : List K) → any_of test first ks ≡ true → (first ≡ true → Q) → ((k : K) → test k ≡ true → p k ≡ true → Q)
-    → list_all p ks ≡ true → Q
-any_says test p Q first [] any here each all = here any
-any_says test p Q first (k ∷ ks) any here each all =
-    let parts = and_parts (p k) (list_all p ks) all in
-    any_says test p Q (first || test k) ks any (λ is. elim (or_cases first (test k) is) [ inl e ↦ here e | inr e ↦ each k e parts.0 ]) each parts.1
 
 abbrev pub agree : Bool → Bool → Bool
 agree true b = b

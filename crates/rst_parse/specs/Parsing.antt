@@ -1,5 +1,5 @@
 -- What the tokens of a text are parsed as.
-use Rattle.std.specs.Prelude.{◌≡◌, ℕ, ◌+◌, ◌≤◌, List, [], ◌∷◌, length, ◌⊎◌, Some, None, Result, Ok, Err}
+use Rattle.std.specs.Prelude.{◌≡◌, ℕ, ◌+◌, ◌<◌, ◌≤◌, List, [], ◌∷◌, length, ◌⊎◌, Some, None, Result, Ok, Err}
 use Rattle.rst_lex.specs.declared.token.Token.{Token}
 use Rattle.rst_tree.specs.declared.module.Source.{Source}
 use Rattle.rst_tree.specs.Modules.{PlainModule, height_of_module, plain_source}
@@ -49,3 +49,9 @@ pub data Parses (text : List ℕ) (tokens : List Token) (answer : Answer) : Type
 abbrev pub plain_answer : Result Source ParseFault → Answer
 plain_answer (Ok source) = Ok (plain_source source)
 plain_answer (Err fault) = Err fault
+
+-- The fault names one of so many tokens, where it names one.
+abbrev pub NamesToken : ℕ → ParseFault → Type 0
+NamesToken count (faults.Unsupported i) = i < count
+NamesToken count (faults.NoTree i) = i < count
+NamesToken count faults.NoMemory = Unit {0}

@@ -3,25 +3,37 @@
 ghost use Rattle.std.specs.Prelude.{◌≡◌, map, Some};
 ghost use Rattle.std.specs.Option.{option_map};
 ghost use Rattle.rst_tree.specs.Trees.{Text, plain};
-ghost use Rattle.rst_tree.specs.Modules.{PlainParam, PlainNetName, plain_range, plain_port_decl, plain_param, plain_net_name, plain_net_decl};
-ghost use Rattle.rst_grammar.specs.declared.symbol.Terminal.TheVariants.{OpenBracket};
-ghost use Rattle.rst_grammar.specs.Declarations.{param_of};
-ghost use Rattle.rst_grammar.specs.ReadParts.{name_in, mapped, optional};
-ghost use Rattle.rst_grammar.specs.ReadDeclarations.{range_in, direction_in, kind_in, names_in, port_decl_in, setting_in, settings_in, params_in, net_value_in, net_name_in, net_names_in, net_decl_in};
+ghost use Rattle.rst_tree.specs.Modules.{PlainParamName, PlainNetName, plain_range, plain_port_decl, plain_param_name, plain_param_decl, plain_net_name, plain_net_decl};
+ghost use Rattle.rst_grammar.specs.declared.symbol.Terminal.TheVariants.{OpenBracket, CloseBracket, Colon, Semicolon};
+ghost use Rattle.rst_grammar.specs.ReadParts.{name_in, optional, behind, up_to};
+ghost use Rattle.rst_grammar.specs.ReadDeclarations.{expr_in, range_in, direction_in, kind_in, names_in, port_decl_in, param_name_in, param_names_in, param_decl_in, net_value_in, net_name_in, net_names_in, net_decl_in};
 ghost use Rattle.rst_read.specs.Gives.{Gives};
 ghost use Rattle.rst_parse.specs.Beside.{beside, itself};
 
-use crate::copies::range_copy;
 use crate::lists::{Reader, Separator, separated};
-use crate::parts::{expression, flag, name};
+use crate::parts::{closed, expression, flag, name, value};
 use rst_grammar::{Symbol, Terminal};
 use rst_outside::Name;
 use rst_read::{Stop, after, behind};
-use rst_tree::{Expr, NetDecl, NetName, Param, PortDecl, Range};
+use rst_tree::{Expr, NetDecl, NetName, ParamDecl, ParamName, PortDecl, Range};
 use std::alloc::Global;
 
+// The lower end of a range, between `:` and `]`.
+#[tactic(auto, unfolding(rst_grammar::specs::ReadParts::behind, rst_grammar::specs::ReadParts::up_to))]
+fn low_end<'s, 'a>(
+    alloc: Global,
+    symbols: &'s [Symbol<'a>],
+) -> Result<(Expr, &'s [Symbol<'a>]), Stop>
+    ensures { Gives (beside plain) result (behind Colon (up_to CloseBracket (expr_in 200)) symbols.now) }
+{
+    let rest = after(symbols, Terminal::Colon)?;
+    let (low, rest) = expression(alloc, rest)?;
+    let (low, rest) = closed(low, rest, Terminal::CloseBracket)?;
+    Ok((low, rest))
+}
+
 // What stands behind `[`.
-#[tactic(auto, unfolding(rst_grammar::specs::ReadDeclarations::range_in, rst_grammar::specs::ReadParts::mapped, rst_grammar::specs::ReadParts::both, rst_grammar::specs::ReadParts::behind, rst_grammar::specs::ReadParts::up_to))]
+#[tactic(auto, unfolding(rst_grammar::specs::ReadDeclarations::range_in, rst_grammar::specs::ReadParts::mapped, rst_grammar::specs::ReadParts::both))]
 fn range<'s, 'a>(
     alloc: Global,
     symbols: &'s [Symbol<'a>],
@@ -29,9 +41,13 @@ fn range<'s, 'a>(
     ensures { Gives (beside plain_range) result (range_in 200 symbols.now) }
 {
     let (high, rest) = expression(alloc, symbols)?;
-    let rest = after(rest, Terminal::Colon)?;
-    let (low, rest) = expression(alloc, rest)?;
-    let rest = after(rest, Terminal::CloseBracket)?;
+    let (low, rest) = match low_end(alloc, rest) {
+        Ok(found) => found,
+        Err(stop) => {
+            drop(high);
+            return Err(stop);
+        }
+    };
     Ok((Range { high, low }, rest))
 }
 
@@ -117,7 +133,13 @@ pub(crate) fn port_decl<'s, 'a>(
     let (reg, rest) = kind(rest);
     let (signed, rest) = flag(rest, Terminal::Signed);
     let (range, rest) = optional_range(alloc, rest)?;
-    let (names, rest) = names(alloc, rest)?;
+    let (names, rest) = match names(alloc, rest) {
+        Ok(found) => found,
+        Err(stop) => {
+            drop(range);
+            return Err(stop);
+        }
+    };
     let decl = PortDecl {
         input,
         reg,
@@ -128,51 +150,49 @@ pub(crate) fn port_decl<'s, 'a>(
     Ok((decl, rest))
 }
 
-// Reads a parameter's name and value, behind a sign and a range that hold for all.
+// Reads a parameter's name and value.
 #[derive(Drop)]
-struct ParamReader<'r> {
-    local: bool,
-    signed: bool,
-    range: &'r Option<Range>,
-}
+struct ParamNameReader;
 
-impl<'r> Reader for ParamReader<'r> {
-    type Part = Param;
+impl Reader for ParamNameReader {
+    type Part = ParamName;
 
-    ghost Plain = { PlainParam };
+    ghost Plain = { PlainParamName };
 
-    ghost plain = { plain_param };
+    ghost plain = { plain_param_name };
 
-    ghost reader = { λ r. mapped (param_of r.local r.signed (option_map plain_range r.range.now)) (setting_in 200) };
+    ghost reader = { λ _. param_name_in 200 };
 
-    #[tactic(auto, unfolding(rst_grammar::specs::ReadDeclarations::setting_in, rst_grammar::specs::ReadParts::mapped, rst_grammar::specs::ReadParts::both, rst_grammar::specs::ReadParts::behind))]
+    #[tactic(auto, unfolding(rst_grammar::specs::ReadDeclarations::param_name_in, rst_grammar::specs::ReadParts::mapped, rst_grammar::specs::ReadParts::both))]
     fn read<'s, 'a>(
         &self,
         alloc: Global,
         symbols: &'s [Symbol<'a>],
-    ) -> Result<(Param, &'s [Symbol<'a>]), Stop> {
+    ) -> Result<(ParamName, &'s [Symbol<'a>]), Stop> {
         let (name, rest) = name(alloc, symbols)?;
-        let rest = after(rest, Terminal::Equal)?;
-        let (value, rest) = expression(alloc, rest)?;
-        let param = Param {
-            local: self.local,
-            signed: self.signed,
-            range: range_copy(alloc, self.range)?,
-            name,
-            value,
-        };
-        Ok((param, rest))
+        let (value, rest) = value(alloc, rest)?;
+        Ok((ParamName { name, value }, rest))
     }
 }
 
-/// The parameters behind `parameter` or, of local ones, `localparam`, and that word.
-#[tactic(auto, unfolding(rst_grammar::specs::ReadDeclarations::params_in, rst_grammar::specs::ReadDeclarations::settings_in, rst_grammar::specs::ReadParts::mapped, rst_grammar::specs::ReadParts::both, rst_grammar::specs::ReadParts::behind))]
-pub(crate) fn params<'s, 'a>(
+#[tactic(auto, unfolding(rst_grammar::specs::ReadDeclarations::param_names_in))]
+fn param_names<'s, 'a>(
+    alloc: Global,
+    symbols: &'s [Symbol<'a>],
+) -> Result<(Vec<ParamName>, &'s [Symbol<'a>]), Stop>
+    ensures { Gives (beside (λ names. map plain_param_name names.items)) result (param_names_in 200 symbols.now) }
+{
+    separated(&ParamNameReader, Separator::CommaBeforeName, alloc, symbols)
+}
+
+/// The word `parameter` or, of local ones, `localparam`, and the parameters behind it.
+#[tactic(auto, unfolding(rst_grammar::specs::ReadDeclarations::param_decl_in, rst_grammar::specs::ReadParts::mapped, rst_grammar::specs::ReadParts::both, rst_grammar::specs::ReadParts::behind))]
+pub(crate) fn param_decl<'s, 'a>(
     alloc: Global,
     local: bool,
     symbols: &'s [Symbol<'a>],
-) -> Result<(Vec<Param>, &'s [Symbol<'a>]), Stop>
-    ensures { Gives (beside (λ params. map plain_param params.items)) result (params_in local 200 symbols.now) }
+) -> Result<(ParamDecl, &'s [Symbol<'a>]), Stop>
+    ensures { Gives (beside plain_param_decl) result (param_decl_in local 200 symbols.now) }
 {
     let word = if local {
         Terminal::Localparam
@@ -182,26 +202,20 @@ pub(crate) fn params<'s, 'a>(
     let rest = after(symbols, word)?;
     let (signed, rest) = flag(rest, Terminal::Signed);
     let (range, rest) = optional_range(alloc, rest)?;
-    settings(alloc, local, signed, &range, rest)
-}
-
-// Names with their values, of parameters with this sign and this range.
-#[tactic(auto, unfolding(rst_grammar::specs::ReadDeclarations::settings_in))]
-fn settings<'s, 'a>(
-    alloc: Global,
-    local: bool,
-    signed: bool,
-    range: &Option<Range>,
-    symbols: &'s [Symbol<'a>],
-) -> Result<(Vec<Param>, &'s [Symbol<'a>]), Stop>
-    ensures { Gives (beside (λ params. map plain_param params.items)) result (mapped (map (param_of local signed (option_map plain_range range.now))) (settings_in 200) symbols.now) }
-{
-    let reader = ParamReader {
+    let (names, rest) = match param_names(alloc, rest) {
+        Ok(found) => found,
+        Err(stop) => {
+            drop(range);
+            return Err(stop);
+        }
+    };
+    let decl = ParamDecl {
         local,
         signed,
         range,
+        names,
     };
-    separated(&reader, Separator::CommaBeforeName, alloc, symbols)
+    Ok((decl, rest))
 }
 
 // What a wire is assigned where it is declared; a reg has no such value.
@@ -250,19 +264,22 @@ impl Reader for NetNameReader {
     }
 }
 
-#[tactic(auto, unfolding(rst_grammar::specs::ReadDeclarations::net_names_in))]
+// The names of a declaration of wires or regs, up to the semicolon.
+#[tactic(auto, unfolding(rst_grammar::specs::ReadDeclarations::net_names_in, rst_grammar::specs::ReadParts::up_to))]
 fn net_names<'s, 'a>(
     alloc: Global,
     reg: bool,
     symbols: &'s [Symbol<'a>],
 ) -> Result<(Vec<NetName>, &'s [Symbol<'a>]), Stop>
-    ensures { Gives (beside (λ names. map plain_net_name names.items)) result (net_names_in reg 200 symbols.now) }
+    ensures { Gives (beside (λ names. map plain_net_name names.items)) result (up_to Semicolon (net_names_in reg 200) symbols.now) }
 {
-    separated(&NetNameReader { reg }, Separator::Comma, alloc, symbols)
+    let (names, rest) = separated(&NetNameReader { reg }, Separator::Comma, alloc, symbols)?;
+    let rest = after(rest, Terminal::Semicolon)?;
+    Ok((names, rest))
 }
 
 /// A declaration of wires or, where `reg` is set, of regs.
-#[tactic(auto, unfolding(rst_grammar::specs::ReadDeclarations::net_decl_in, rst_grammar::specs::ReadParts::mapped, rst_grammar::specs::ReadParts::both, rst_grammar::specs::ReadParts::behind, rst_grammar::specs::ReadParts::up_to))]
+#[tactic(auto, unfolding(rst_grammar::specs::ReadDeclarations::net_decl_in, rst_grammar::specs::ReadParts::mapped, rst_grammar::specs::ReadParts::both, rst_grammar::specs::ReadParts::behind))]
 pub(crate) fn net_decl<'s, 'a>(
     alloc: Global,
     reg: bool,
@@ -274,8 +291,13 @@ pub(crate) fn net_decl<'s, 'a>(
     let rest = after(symbols, word)?;
     let (signed, rest) = flag(rest, Terminal::Signed);
     let (range, rest) = optional_range(alloc, rest)?;
-    let (names, rest) = net_names(alloc, reg, rest)?;
-    let rest = after(rest, Terminal::Semicolon)?;
+    let (names, rest) = match net_names(alloc, reg, rest) {
+        Ok(found) => found,
+        Err(stop) => {
+            drop(range);
+            return Err(stop);
+        }
+    };
     let decl = NetDecl {
         reg,
         signed,

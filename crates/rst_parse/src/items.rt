@@ -2,18 +2,18 @@
 
 ghost use Rattle.std.specs.Prelude.{◌≡◌, List, map, Some};
 ghost use Rattle.rst_tree.specs.declared.module.Event.{Event};
-ghost use Rattle.rst_tree.specs.Modules.{PlainAssign, Port, Net, Params, plain_assign, plain_events, plain_always, plain_item};
-ghost use Rattle.rst_grammar.specs.declared.symbol.Terminal.TheVariants.{Semicolon};
-ghost use Rattle.rst_grammar.specs.ReadParts.{mapped, up_to};
-ghost use Rattle.rst_grammar.specs.ReadDeclarations.{port_decl_in, params_in, net_decl_in};
-ghost use Rattle.rst_grammar.specs.ReadItems.{assign_in, assigns_in, edge_in, event_in, event_list_in, events_in, always_in, word_item, item_in};
+ghost use Rattle.rst_tree.specs.Modules.{PlainAssign, OneOf, Port, Net, Params, plain_assign, plain_events, plain_always, plain_item};
+ghost use Rattle.rst_grammar.specs.declared.symbol.Terminal.TheVariants.{Semicolon, CloseParen};
+ghost use Rattle.rst_grammar.specs.ReadParts.{mapped, up_to, separated};
+ghost use Rattle.rst_grammar.specs.ReadDeclarations.{port_decl_in, param_decl_in, net_decl_in};
+ghost use Rattle.rst_grammar.specs.ReadItems.{assign_in, assigns_in, edge_in, event_in, or_comma, event_list_in, events_in, always_in, word_item, item_in};
 ghost use Rattle.rst_read.specs.Gives.{Gives};
 ghost use Rattle.rst_parse.specs.Beside.{beside, itself};
 
-use crate::declarations::{net_decl, params, port_decl};
+use crate::declarations::{net_decl, param_decl, port_decl};
 use crate::links::instance;
 use crate::lists::{Reader, Separator, separated};
-use crate::parts::{expression, name, statement, target};
+use crate::parts::{closed, name, statement, target, value};
 use rst_grammar::{Symbol, Terminal};
 use rst_read::{Stop, after};
 use rst_tree::{Always, Assign, EdgeKind, Event, Events, Item};
@@ -32,15 +32,20 @@ impl Reader for AssignReader {
 
     ghost reader = { λ _. assign_in 200 };
 
-    #[tactic(auto, unfolding(rst_grammar::specs::ReadItems::assign_in, rst_grammar::specs::ReadParts::mapped, rst_grammar::specs::ReadParts::both, rst_grammar::specs::ReadParts::behind))]
+    #[tactic(auto, unfolding(rst_grammar::specs::ReadItems::assign_in, rst_grammar::specs::ReadParts::mapped, rst_grammar::specs::ReadParts::both))]
     fn read<'s, 'a>(
         &self,
         alloc: Global,
         symbols: &'s [Symbol<'a>],
     ) -> Result<(Assign, &'s [Symbol<'a>]), Stop> {
         let (target, rest) = target(alloc, symbols)?;
-        let rest = after(rest, Terminal::Equal)?;
-        let (value, rest) = expression(alloc, rest)?;
+        let (value, rest) = match value(alloc, rest) {
+            Ok(found) => found,
+            Err(stop) => {
+                drop(target);
+                return Err(stop);
+            }
+        };
         Ok((Assign { target, value }, rest))
     }
 }
@@ -95,8 +100,21 @@ impl Reader for EventReader {
     }
 }
 
+// Events up to the closing parenthesis.
+#[tactic(auto, unfolding(rst_grammar::specs::ReadParts::mapped, rst_grammar::specs::ReadParts::up_to))]
+fn listed_events<'s, 'a>(
+    alloc: Global,
+    symbols: &'s [Symbol<'a>],
+) -> Result<(Events, &'s [Symbol<'a>]), Stop>
+    ensures { Gives (beside plain_events) result (mapped OneOf (up_to CloseParen (separated or_comma event_in)) symbols.now) }
+{
+    let (events, rest) = separated(&EventReader, Separator::OrComma, alloc, symbols)?;
+    let rest = after(rest, Terminal::CloseParen)?;
+    Ok((Events::List(events), rest))
+}
+
 // What stands in the parentheses behind `@`, and the closing one.
-#[tactic(auto, unfolding(rst_grammar::specs::ReadItems::event_list_in, rst_grammar::specs::ReadParts::mapped, rst_grammar::specs::ReadParts::up_to))]
+#[tactic(auto, unfolding(rst_grammar::specs::ReadItems::event_list_in))]
 fn event_list<'s, 'a>(
     alloc: Global,
     symbols: &'s [Symbol<'a>],
@@ -108,11 +126,7 @@ fn event_list<'s, 'a>(
             let rest = after(rest, Terminal::CloseParen)?;
             Ok((Events::Any, rest))
         }
-        _ => {
-            let (events, rest) = separated(&EventReader, Separator::OrComma, alloc, symbols)?;
-            let rest = after(rest, Terminal::CloseParen)?;
-            Ok((Events::List(events), rest))
-        }
+        _ => listed_events(alloc, symbols),
     }
 }
 
@@ -153,7 +167,7 @@ fn port_item<'s, 'a>(
     ensures { Gives (beside plain_item) result (mapped Port (up_to Semicolon (port_decl_in 200)) symbols.now) }
 {
     let (decl, rest) = port_decl(alloc, symbols)?;
-    let rest = after(rest, Terminal::Semicolon)?;
+    let (decl, rest) = closed(decl, rest, Terminal::Semicolon)?;
     Ok((Item::Port(decl), rest))
 }
 
@@ -163,11 +177,11 @@ fn params_item<'s, 'a>(
     local: bool,
     symbols: &'s [Symbol<'a>],
 ) -> Result<(Item, &'s [Symbol<'a>]), Stop>
-    ensures { Gives (beside plain_item) result (mapped Params (up_to Semicolon (params_in local 200)) symbols.now) }
+    ensures { Gives (beside plain_item) result (mapped Params (up_to Semicolon (param_decl_in local 200)) symbols.now) }
 {
-    let (params, rest) = params(alloc, local, symbols)?;
-    let rest = after(rest, Terminal::Semicolon)?;
-    Ok((Item::Params(params), rest))
+    let (decl, rest) = param_decl(alloc, local, symbols)?;
+    let (decl, rest) = closed(decl, rest, Terminal::Semicolon)?;
+    Ok((Item::Params(decl), rest))
 }
 
 #[tactic(auto, unfolding(rst_grammar::specs::ReadParts::mapped))]

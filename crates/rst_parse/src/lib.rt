@@ -1,7 +1,6 @@
 //! From the tokens of a text to its modules.
 #![tactic(auto)]
 
-mod copies;
 mod declarations;
 mod items;
 mod laws;
@@ -14,10 +13,5 @@ mod pieces;
 mod spelling;
 mod symbols;
 
-pub use laws::one_answer;
+pub use laws::{fault_place, one_answer, some_answer, well_formed};
 pub use parser::{ParseFault, parse};
-
-#[cfg(test)]
-mod item_tests;
-#[cfg(test)]
-mod tests;

@@ -1,15 +1,17 @@
 // Reading instances and their links, one function for each reader of the grammar's specification.
 
-ghost use Rattle.std.specs.Prelude.{◌≡◌, List, Option, map};
+ghost use Rattle.std.specs.Prelude.{◌≡◌, List, Option, Some, map};
 ghost use Rattle.std.specs.Option.{option_map};
 ghost use Rattle.rst_tree.specs.Trees.{Tree, plain};
 ghost use Rattle.rst_tree.specs.Modules.{PlainLink, PlainCopied, plain_link, plain_links, plain_copied, plain_instance};
+ghost use Rattle.rst_grammar.specs.ReadParts.{mapped};
+ghost use Rattle.rst_grammar.specs.ReadDeclarations.{expr_in};
 ghost use Rattle.rst_grammar.specs.ReadItems.{link_value_in, link_in, links_in, parens_in, param_links_in, copied_in, copies_in, instance_in};
 ghost use Rattle.rst_read.specs.Gives.{Gives};
 ghost use Rattle.rst_parse.specs.Beside.{beside};
 
 use crate::lists::{Reader, Separator, separated};
-use crate::parts::{expression, name};
+use crate::parts::{closed, expression, name};
 use rst_grammar::{Symbol, Terminal};
 use rst_read::{Stop, after, behind};
 use rst_tree::{Copied, Expr, Instance, Link, Links};
@@ -37,7 +39,19 @@ impl Reader for LinkValueReader {
     }
 }
 
-#[tactic(auto, unfolding(rst_grammar::specs::ReadItems::link_value_in))]
+// What is linked, where it isn't left out.
+#[tactic(auto, unfolding(rst_grammar::specs::ReadParts::mapped))]
+fn linked<'s, 'a>(
+    alloc: Global,
+    symbols: &'s [Symbol<'a>],
+) -> Result<(Option<Expr>, &'s [Symbol<'a>]), Stop>
+    ensures { Gives (beside (option_map plain)) result (mapped (λ (e : Tree). Some e) (expr_in 200) symbols.now) }
+{
+    let (value, rest) = expression(alloc, symbols)?;
+    Ok((Some(value), rest))
+}
+
+#[tactic(auto, unfolding(rst_grammar::specs::ReadItems::link_value_in, rst_grammar::specs::ReadParts::mapped))]
 fn link_value<'s, 'a>(
     alloc: Global,
     symbols: &'s [Symbol<'a>],
@@ -46,10 +60,7 @@ fn link_value<'s, 'a>(
 {
     match symbols {
         [Symbol::Terminal(Terminal::Comma | Terminal::CloseParen), ..] => Ok((None, symbols)),
-        _ => {
-            let (value, rest) = expression(alloc, symbols)?;
-            Ok((Some(value), rest))
-        }
+        _ => linked(alloc, symbols),
     }
 }
 
@@ -76,7 +87,7 @@ impl Reader for LinkReader {
         let (name, rest) = name(alloc, rest)?;
         let rest = after(rest, Terminal::OpenParen)?;
         let (value, rest) = link_value(alloc, rest)?;
-        let rest = after(rest, Terminal::CloseParen)?;
+        let (value, rest) = closed(value, rest, Terminal::CloseParen)?;
         Ok((Link { name, value }, rest))
     }
 }

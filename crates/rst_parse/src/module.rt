@@ -1,66 +1,56 @@
 // Reading modules, one function for each reader of the grammar's specification.
 
-ghost use Rattle.std.specs.Prelude.{◌≡◌, ◌≤◌, List, [], map, flat_map, false, Some, IfOk};
-ghost use Rattle.rst_tree.specs.Modules.{PlainParam, PlainPortDecl, PlainModule, height_of_module, plain_param, plain_port_decl, plain_header, plain_item, plain_module};
+ghost use Rattle.std.specs.Prelude.{◌≡◌, ◌≤◌, [], map, false, Some, IfOk};
+ghost use Rattle.rst_tree.specs.Modules.{PlainParamDecl, PlainPortDecl, PlainModule, height_of_module, plain_param_decl, plain_port_decl, plain_header, plain_item, plain_module};
+ghost use Rattle.rst_tree.specs.Modules.{Plain as NamesAlone, Full};
+ghost use Rattle.rst_grammar.specs.declared.symbol.Terminal.TheVariants.{CloseParen};
 ghost use Rattle.rst_grammar.specs.Modules.{SpellsModule};
-ghost use Rattle.rst_grammar.specs.ReadDeclarations.{port_decl_in, params_in};
+ghost use Rattle.rst_grammar.specs.ReadParts.{mapped, up_to, separated, comma};
+ghost use Rattle.rst_grammar.specs.ReadDeclarations.{names_in, port_decl_in, param_decl_in};
 ghost use Rattle.rst_grammar.specs.ReadModule.{groups_in, header_params_in, ports_in, header_in, items_in, module_reader};
 ghost use Rattle.rst_read.specs.Gives.{Gives};
 ghost use Rattle.rst_parse.specs.Beside.{beside};
 
-use crate::declarations::{names, params, port_decl};
+use crate::declarations::{names, param_decl, port_decl};
 use crate::items::item;
 use crate::lists::{Reader, Separator, separated};
 use crate::parts::name;
 use rst_grammar::{Symbol, Terminal};
-use rst_outside::NoMemory;
 use rst_read::{Stop, after, behind};
-use rst_tree::{Header, Item, Module, Param, PortDecl};
+use rst_tree::{Header, Item, Module, ParamDecl, PortDecl};
 use std::alloc::Global;
 
-// Reads parameters behind one `parameter`.
+// Reads a declaration of parameters that aren't local.
 #[derive(Drop)]
 struct GroupReader;
 
 impl Reader for GroupReader {
-    type Part = Vec<Param>;
+    type Part = ParamDecl;
 
-    ghost Plain = { List PlainParam };
+    ghost Plain = { PlainParamDecl };
 
-    ghost plain = { λ params. map plain_param params.items };
+    ghost plain = { plain_param_decl };
 
-    ghost reader = { λ _. params_in false 200 };
+    ghost reader = { λ _. param_decl_in false 200 };
 
     fn read<'s, 'a>(
         &self,
         alloc: Global,
         symbols: &'s [Symbol<'a>],
-    ) -> Result<(Vec<Param>, &'s [Symbol<'a>]), Stop> {
-        params(alloc, false, symbols)
+    ) -> Result<(ParamDecl, &'s [Symbol<'a>]), Stop> {
+        param_decl(alloc, false, symbols)
     }
 }
 
-// The parameters of all groups, one after the other.
-fn joined(alloc: Global, groups: Vec<Vec<Param>>) -> Result<Vec<Param>, NoMemory>
-    ensures { IfOk result (λ all. map plain_param all.items ≡ flat_map (λ ps. ps) (map (λ params. map plain_param params.items) groups.items)) }
-{
-    let mut all = Vec::new(alloc);
-    for mut group in groups {
-        all.append(&mut group)?;
-    }
-    Ok(all)
-}
-
-// Groups of parameters with commas between them.
-#[tactic(auto, unfolding(rst_grammar::specs::ReadModule::groups_in, rst_grammar::specs::ReadParts::mapped))]
+// Declarations of parameters with commas between them.
+#[tactic(auto, unfolding(rst_grammar::specs::ReadModule::groups_in))]
 fn groups<'s, 'a>(
     alloc: Global,
     symbols: &'s [Symbol<'a>],
-) -> Result<(Vec<Param>, &'s [Symbol<'a>]), Stop>
-    ensures { Gives (beside (λ params. map plain_param params.items)) result (groups_in 200 symbols.now) }
+) -> Result<(Vec<ParamDecl>, &'s [Symbol<'a>]), Stop>
+    ensures { Gives (beside (λ groups. map plain_param_decl groups.items)) result (groups_in 200 symbols.now) }
 {
-    let (groups, rest) = separated(&GroupReader, Separator::Comma, alloc, symbols)?;
-    Ok((joined(alloc, groups)?, rest))
+    separated(&GroupReader, Separator::Comma, alloc, symbols)
 }
 
 // The parameters of the header, of which there may be none.
@@ -68,16 +58,16 @@ fn groups<'s, 'a>(
 fn header_params<'s, 'a>(
     alloc: Global,
     symbols: &'s [Symbol<'a>],
-) -> Result<(Vec<Param>, &'s [Symbol<'a>]), Stop>
-    ensures { Gives (beside (λ params. map plain_param params.items)) result (header_params_in 200 symbols.now) }
+) -> Result<(Vec<ParamDecl>, &'s [Symbol<'a>]), Stop>
+    ensures { Gives (beside (λ groups. map plain_param_decl groups.items)) result (header_params_in 200 symbols.now) }
 {
     let Some(rest) = behind(symbols, Terminal::Hash) else {
         return Ok((Vec::new(alloc), symbols));
     };
     let rest = after(rest, Terminal::OpenParen)?;
-    let (params, rest) = groups(alloc, rest)?;
+    let (groups, rest) = groups(alloc, rest)?;
     let rest = after(rest, Terminal::CloseParen)?;
-    Ok((params, rest))
+    Ok((groups, rest))
 }
 
 // Reads a declaration of ports.
@@ -102,8 +92,34 @@ impl Reader for PortDeclReader {
     }
 }
 
+// The names of ports up to the closing parenthesis.
+#[tactic(auto, unfolding(rst_grammar::specs::ReadParts::mapped, rst_grammar::specs::ReadParts::up_to))]
+fn port_names<'s, 'a>(
+    alloc: Global,
+    symbols: &'s [Symbol<'a>],
+) -> Result<(Header, &'s [Symbol<'a>]), Stop>
+    ensures { Gives (beside plain_header) result (mapped NamesAlone (up_to CloseParen names_in) symbols.now) }
+{
+    let (names, rest) = names(alloc, symbols)?;
+    let rest = after(rest, Terminal::CloseParen)?;
+    Ok((Header::Plain(names), rest))
+}
+
+// The declarations of ports up to the closing parenthesis.
+#[tactic(auto, unfolding(rst_grammar::specs::ReadParts::mapped, rst_grammar::specs::ReadParts::up_to))]
+fn port_decls<'s, 'a>(
+    alloc: Global,
+    symbols: &'s [Symbol<'a>],
+) -> Result<(Header, &'s [Symbol<'a>]), Stop>
+    ensures { Gives (beside plain_header) result (mapped Full (up_to CloseParen (separated comma (port_decl_in 200))) symbols.now) }
+{
+    let (ports, rest) = separated(&PortDeclReader, Separator::Comma, alloc, symbols)?;
+    let rest = after(rest, Terminal::CloseParen)?;
+    Ok((Header::Full(ports), rest))
+}
+
 // What stands in the parentheses of a header, and the closing one.
-#[tactic(auto, unfolding(rst_grammar::specs::ReadModule::ports_in, rst_grammar::specs::ReadParts::mapped, rst_grammar::specs::ReadParts::up_to))]
+#[tactic(auto, unfolding(rst_grammar::specs::ReadModule::ports_in))]
 fn ports<'s, 'a>(
     alloc: Global,
     symbols: &'s [Symbol<'a>],
@@ -114,16 +130,8 @@ fn ports<'s, 'a>(
         [Symbol::Terminal(Terminal::CloseParen), rest @ ..] => {
             Ok((Header::Plain(Vec::new(alloc)), rest))
         }
-        [Symbol::Name(_), ..] => {
-            let (names, rest) = names(alloc, symbols)?;
-            let rest = after(rest, Terminal::CloseParen)?;
-            Ok((Header::Plain(names), rest))
-        }
-        _ => {
-            let (ports, rest) = separated(&PortDeclReader, Separator::Comma, alloc, symbols)?;
-            let rest = after(rest, Terminal::CloseParen)?;
-            Ok((Header::Full(ports), rest))
-        }
+        [Symbol::Name(_), ..] => port_names(alloc, symbols),
+        _ => port_decls(alloc, symbols),
     }
 }
 
@@ -202,6 +210,7 @@ pub(crate) fn module<'a>(alloc: Global, symbols: &[Symbol<'a>]) -> Result<Module
 {
     let (found, rest) = read_module(alloc, symbols)?;
     if !rest.is_empty() {
+        drop(found);
         return Err(Stop::NoTree);
     }
     Ok(found)

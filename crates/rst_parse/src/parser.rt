@@ -1,11 +1,13 @@
 //! The modules of a whole text.
 
 ghost use Rattle.std.specs.Prelude.{◌≡◌, ◌≢◌, ◌≤◌, length, List, map, IfOk, IfErr, Ok, Err};
+ghost use Rattle.std.specs.List.{All};
 ghost use Rattle.rst_lex.specs.Lexing.{Reads};
 ghost use Rattle.rst_tree.specs.Modules.{plain_module, plain_source};
+ghost use Rattle.rst_tree.specs.WellFormed.{WellFormed};
 ghost use Rattle.rst_parse.specs.declared.parser.ParseFault.TheVariants.{NoTree, NoMemory};
 ghost use Rattle.rst_parse.specs.Pieces.{pieces};
-ghost use Rattle.rst_parse.specs.Parsing.{IsModuleOf, IsNoModule, Answer, ReadsPieces, Parses, plain_answer};
+ghost use Rattle.rst_parse.specs.Parsing.{IsModuleOf, IsNoModule, Answer, ReadsPieces, Parses, NamesToken, plain_answer};
 
 use crate::module::module;
 use crate::pieces::first_piece;
@@ -73,7 +75,8 @@ fn modules<'a>(alloc: Global, symbols: &[Symbol<'a>]) -> Result<Vec<Module>, Par
 ///
 /// The tokens are cut behind each `endmodule`, and each piece has to be a module of the grammar (IEEE 1364-2001,
 /// annex A, narrowed to the profile) with a tree of a height of at most 200. Tokens behind the last `endmodule` are
-/// a piece of their own, and an empty text has no modules.
+/// a piece of their own, and an empty text has no modules. Each module that is answered is well formed: what stands in
+/// `specs/WellFormed.antt` of `rst_tree`, the condition of calls that take modules.
 ///
 /// `Unsupported` comes exactly where a token is refused: a keyword of `REFUSED_KEYWORDS`, one of the marks `===`,
 /// `!==` and `**`, or a system token other than `$signed` and `$unsigned`. It carries the number of the first such
@@ -84,6 +87,10 @@ pub fn parse(alloc: Global, text: &[u8], tokens: &[Token]) -> Result<Source, Par
     requires read { Reads text.now (Ok tokens.now) }
     ensures source { IfOk result (λ source. Parses text.now tokens.now (Ok (plain_source source))) }
     ensures fault { IfErr result (λ fault. fault ≢ NoMemory → Parses text.now tokens.now (Err fault)) }
+    // The place of a fault lies among the tokens.
+    ensures place { IfErr result (NamesToken (length tokens.now)) }
+    // The grammar gives well formed modules alone.
+    ensures formed { IfOk result (λ source. All WellFormed (plain_source source)) }
     // What the tokens are parsed as is answered, unless memory runs out.
     ensures only { (answer : Answer) → Parses text.now tokens.now answer → result ≢ Err NoMemory → plain_answer result ≡ answer }
 {

@@ -1,4 +1,4 @@
--- A whole expression, or a whole statement.
+-- A whole expression.
 use Rattle.std.proofs.Common.{◌≡◌, ℕ, ◌≤◌, List, [], ◌++◌, Some, None, sym, ap, subst, ◌∙◌}
 use Rattle.std.proofs.lemmas.List.{append-nil}
 use Rattle.rst_tree.specs.Trees.{Tree, height}
@@ -11,10 +11,6 @@ use Rattle.rst_grammar.specs.Reading.{readers}
 use Rattle.rst_grammar.proofs.Takes.{full_takes}
 use Rattle.rst_grammar.proofs.Fronts.{Front, whole}
 use Rattle.rst_grammar.proofs.Sound.{readers_sound, Read}
-use Rattle.rst_tree.specs.Statements.{Statement, height_of}
-use Rattle.rst_grammar.specs.Statements.{SpellsStmt}
-use Rattle.rst_grammar.specs.ReadStatement.{stmt_reader}
-use Rattle.rst_grammar.proofs.SoundStatements.{whole_statement_takes}
 
 -- nothing behind it
 pub all_of : (e : Tree) (ts rest : List Symbol) → Front (Spells e) ts rest → rest ≡ [] → Spells e ts
@@ -51,8 +47,3 @@ only_err stop.NoMemory ts e h fails spelled small = tt
 only_err stop.NoTree ts e h fails spelled small =
     let x : Read = (e, []) in
     absurd (none_some x (sym fails ∙ whole_takes h ts e spelled small))
-
--- no statement where none was read
-pub no_statement : (err : Stop) (ts : List Symbol) (s : Statement) (h : ℕ) → Fails err (stmt_reader h ts) → SpellsStmt s ts → height_of s ≤ h → Fails err (Some s)
-no_statement stop.NoMemory ts s h fails spelled small = tt
-no_statement stop.NoTree ts s h fails spelled small = absurd (none_some _ (sym fails ∙ whole_statement_takes h ts s spelled small))

@@ -2,16 +2,13 @@
 use Rattle.std.proofs.Common.{◌≡◌, ℕ, zero, suc, List, [], ◌∷◌, length, Bool, Option, Some, None, refl, sym, ap, ◌∙◌}
 use Rattle.rst_tree.specs.Trees.{Tree, Trees}
 use Rattle.rst_tree.specs.Trees as trees
-use Rattle.rst_tree.specs.Targets.{Place, Places}
-use Rattle.rst_tree.specs.Targets as targets
 use Rattle.rst_grammar.specs.declared.symbol.Symbol.{Symbol}
 use Rattle.rst_grammar.specs.declared.symbol.Symbol.TheVariants as symbol
 use Rattle.rst_grammar.specs.declared.symbol.Terminal.TheVariants as terminal
 use Rattle.rst_grammar.specs.Reading.{after, Readers, more_in, list_from, ◌>>=◌}
-use Rattle.rst_grammar.specs.ReadStatement.{TargetReader, more_targets, label_in, more_labels, labels_in}
+use Rattle.rst_grammar.specs.ReadStatement.{label_in, more_labels, labels_in}
 use Rattle.rst_read.specs.declared.stop.Stop.{Stop}
 use Rattle.rst_read.specs.Gives.{Fails}
-use Rattle.rst_read.specs.Parts.{targets_in}
 use Rattle.rst_read.proofs.Chains.{Chain, Found, with_front, with_first, begins, goes_on, ends, stops}
 
 -- a comma and a part, at most this many times
@@ -81,7 +78,7 @@ behind_none xs = refl
 abbrev pub of_trees : Chain Tree Trees
 of_trees = record { none = trees.end; more = trees.more; appended = trees.appended; joined = joined_trees; behind_none = behind_none; before_none = before_none; one = λ x. refl; along = along }
 
-same_step : {A B : Type 0} (o : Option A) (f g : A → Option B) → ((a : A) → f a ≡ g a) → (o >>= f) ≡ (o >>= g)
+pub same_step : {A B : Type 0} (o : Option A) (f g : A → Option B) → ((a : A) → f a ≡ g a) → (o >>= f) ≡ (o >>= g)
 same_step (Some a) f g e = e a
 same_step None f g e = refl
 
@@ -111,40 +108,3 @@ pub labels_begin : (r : Readers) (wild : Bool) (k : ℕ) (front : Trees) (first 
 unfolding labels_in
 labels_begin r wild k front first ts rest behind h e same n =
     one_read of_trees (label_in r wild) k front first rest behind e same n ∙ ap (with_first of_trees first) (sym (more_labels-is r wild (length rest) rest)) ∙ rw h refl
-
--- ---- targets
-
-pub joined_targets : Places → Places → Places
-joined_targets targets.end ys = ys
-joined_targets (targets.more x xs) ys = targets.more x (joined_targets xs ys)
-
-pub before_no_target : (xs : Places) → joined_targets xs targets.end ≡ xs
-unfolding joined_targets
-before_no_target targets.end = refl
-before_no_target (targets.more x xs) = ap (targets.more x) (before_no_target xs)
-
-pub along_targets : (xs : Places) (x : Place) (ys : Places) → joined_targets (targets.appended xs x) ys ≡ joined_targets xs (targets.more x ys)
-unfolding joined_targets
-along_targets targets.end x ys = refl
-along_targets (targets.more z zs) x ys = ap (targets.more z) (along_targets zs x ys)
-
-pub behind_no_target : (xs : Places) → joined_targets targets.end xs ≡ xs
-unfolding joined_targets
-behind_no_target xs = refl
-
-abbrev pub of_targets : Chain Place Places
-of_targets = record { none = targets.end; more = targets.more; appended = targets.appended; joined = joined_targets; behind_none = behind_no_target; before_none = before_no_target; one = λ x. refl; along = along_targets }
-
-more_targets-is : (target : TargetReader) (k : ℕ) (ts : List Symbol) → more_targets target k ts ≡ more_by of_targets target k ts
-unfolding more_targets
-more_targets-is target zero ts = refl
-more_targets-is target (suc k) [] = refl
-more_targets-is target (suc k) (symbol.Terminal terminal.Comma ∷ ts) = same_step (target ts) _ _ (λ first. ap (with_first of_targets first.0) (more_targets-is target k first.1))
-more_targets-is target (suc k) (s ∷ ts) = refl
-
-pub targets_begin : (target : TargetReader) (k : ℕ) (front : Places) (first : Place) (ts rest behind : List Symbol)
-    → target ts ≡ Some (first, rest) → front ≡ targets.more first targets.end → behind ≡ rest → k ≡ length rest
-    → with_front of_targets front (more_by of_targets target k behind) ≡ targets_in target ts
-unfolding targets_in
-targets_begin target k front first ts rest behind h e same n =
-    one_read of_targets target k front first rest behind e same n ∙ ap (with_first of_targets first) (sym (more_targets-is target (length rest) rest)) ∙ rw h refl

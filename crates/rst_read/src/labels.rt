@@ -3,7 +3,7 @@
 ghost use Rattle.std.specs.Prelude.{◌≡◌, ◌≤◌, max, IfOk};
 ghost use Rattle.std.specs.Option.{option_map};
 ghost use Rattle.rst_grammar.specs.Reading.{readers};
-ghost use Rattle.rst_grammar.specs.ReadStatement.{masked_at, label_in, labels_in, default_colon};
+ghost use Rattle.rst_grammar.specs.ReadStatement.{masked_at, label_in, labels_in};
 ghost use Rattle.rst_read.specs.Gives.{Gives, seen, seen_all};
 
 use crate::expressions::{Answer, read_expression};
@@ -73,14 +73,4 @@ pub fn labels_in<'s, 'a>(
         rest = after;
     }
     Ok((all, rest))
-}
-
-/// The symbols behind the colon that may follow `default`.
-pub fn default_colon<'s, 'a>(symbols: &'s [Symbol<'a>]) -> &'s [Symbol<'a>]
-    ensures { result.now ≡ default_colon symbols.now }
-{
-    match symbols {
-        [Symbol::Terminal(Terminal::Colon), rest @ ..] => rest,
-        _ => symbols,
-    }
 }

@@ -1,25 +1,17 @@
-//! Reads expressions, targets and statements from symbols.
+//! Reads expressions from symbols.
 #![tactic(auto)]
 
-mod blocks;
 mod expressions;
 mod labels;
 mod operators;
 mod parsed;
-mod statements;
 mod stop;
-mod targets;
 mod terminals;
 mod trees;
 
 pub use expressions::{Answer, expression, read_expression};
-pub use parsed::{MOST_HEIGHT, Many, Parsed, ParsedStmt, ParsedTarget};
-pub use statements::{StmtAnswer, read_statement, statement};
+pub use labels::labels_in;
+pub use parsed::{MOST_HEIGHT, Many, Parsed};
 pub use stop::Stop;
-pub use targets::{TargetAnswer, read_target};
 pub use terminals::{after, behind};
-
-#[cfg(test)]
-mod statement_tests;
-#[cfg(test)]
-mod tests;
+pub use trees::both_boxed;

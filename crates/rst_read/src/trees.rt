@@ -9,7 +9,7 @@ use rst_tree::Expr;
 use rst_word::BinaryOp;
 use std::alloc::{AllocError, Global};
 
-// Two values, each in a box.
+/// Two values, each in a box.
 pub fn both_boxed<A: Drop, B: Drop>(
     alloc: Global,
     a: A,

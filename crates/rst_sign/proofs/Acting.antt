@@ -45,7 +45,9 @@ unread_carried answer outcome (inr is) = ap (λ (o : Outcome). o.unread) is ∙ 
 
 -- files that stay change nothing
 pub unchanged : (name : List ℕ) (old new : Option (List DeskFile)) → new ≡ old → ChangesOnly name old new
-unchanged name None new is = tt
+unchanged name None new is =
+    let P : Option (List DeskFile) → Type 0 = λ o. ChangesOnly name None o in
+    subst P (sym is) tt
 unchanged name (Some files) new is =
     let P : Option (List DeskFile) → Type 0 = λ o. ChangesOnly name (Some files) o in
     subst P (sym is) (λ other different. refl)

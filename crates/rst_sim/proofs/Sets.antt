@@ -5,7 +5,8 @@ use Rattle.std.proofs.lemmas.List.{take_more, length-take}
 use Rattle.std.proofs.lemmas.List.Sums.{sum_by-cons}
 use Rattle.rst_gate.specs.Circuits.{Circuit}
 use Rattle.rst_gate.proofs.Related.{Respects, nexts_related}
-use Rattle.rst_sim.specs.Support.{on_support, next_support, IsWithin, IsClosedSet, narrowed, members}
+use Rattle.rst_gate.specs.ClosedSets.{on_support, next_support, IsWithin, IsClosedSet}
+use Rattle.rst_sim.specs.Supports.{narrowed, members}
 
 abbrev Follows : Bool → Bool → Type 0
 Follows a b = a ≡ true → b ≡ true

@@ -1,12 +1,13 @@
 -- One more cycle of a run.
-use Rattle.std.proofs.Common.{◌≡◌, ◌∙◌, ℕ, ◌<◌, ◌≤◌, ◌+◌, Bool, List, [], ◌∷◌, ◌++◌, length, map, drop, get_or, ap, refl, append_assoc, sym, arith, length-drop}
+use Rattle.std.proofs.Common.{◌≡◌, ◌∙◌, ℕ, ◌<◌, ◌≤◌, ◌+◌, Bool, List, [], ◌∷◌, ◌++◌, length, drop, get_or, ap, refl, append_assoc, sym, arith, length-drop}
 use Rattle.std.specs.Prelude.{slice_get, Some}
-use Rattle.std.proofs.lemmas.List.{at_drop_more, nil_from_length}
+use Rattle.std.proofs.lemmas.List.{at_drop_more, nil_from_length, length-map}
 use Rattle.rst_value.specs.declared.tern.Tern.{Tern}
 use Rattle.rst_value.specs.Terns.{known}
-use Rattle.rst_gate.specs.Machine.{Machine, outs, after}
-use Rattle.rst_gate.specs.TernMachine.{TernMachine, tern_after}
-use Rattle.rst_sim.specs.Trails.{tern_trail}
+use Rattle.rst_gate.specs.Machine.{Machine, IsWord, outs, after}
+use Rattle.rst_gate.specs.Patterns.{IsPattern, known_pattern}
+use Rattle.rst_gate.specs.TernMachine.{TernMachine, pattern_after}
+use Rattle.rst_sim.specs.Trails.{pattern_trail}
 
 pub outs_more :
     (m : Machine) (s t : List Bool) (word : List (List Bool)) (i : ℕ) (x : List Bool) (shown shown' : List (List Bool)) (o : List Bool)
@@ -25,31 +26,37 @@ after_more m s t word i x h is is_t =
     rw is_t (at_drop_more (after m s) word i x h ∙ ap (λ y. after m (m.step s y) (drop (i + 1) word)) (sym is))
 
 pub trail_more :
-    (m : TernMachine) (s t : List Tern) (word : List (List Bool)) (i : ℕ) (x : List Bool) (states states' : List (List Tern))
-    → i < length word → x ≡ get_or word i x → t ≡ m.step s (map known x) → states' ≡ states ++ s ∷ []
-    → states ++ tern_trail m s (drop i word) ≡ states' ++ tern_trail m t (drop (i + 1) word)
-trail_more m s t word i x states states' h is is_t push =
+    (m : TernMachine) (s t : List Tern) (pattern : List (List Tern)) (i : ℕ) (x : List Tern) (states states' : List (List Tern))
+    → i < length pattern → x ≡ get_or pattern i x → t ≡ m.step s x → states' ≡ states ++ s ∷ []
+    → states ++ pattern_trail m s (drop i pattern) ≡ states' ++ pattern_trail m t (drop (i + 1) pattern)
+trail_more m s t pattern i x states states' h is is_t push =
     rw (push, is_t, append_assoc)
     (ap (λ r. states ++ r)
-    (at_drop_more (tern_trail m s) word i x h ∙ ap (λ y. s ∷ tern_trail m (m.step s (map known y)) (drop (i + 1) word)) (sym is)))
+    (at_drop_more (pattern_trail m s) pattern i x h ∙ ap (λ y. s ∷ pattern_trail m (m.step s y) (drop (i + 1) pattern)) (sym is)))
 
 -- there is one state more than there are cycles
-pub length-trail : (m : TernMachine) (s : List Tern) (word : List (List Bool)) → length (tern_trail m s word) ≡ length word + 1
+pub length-trail : (m : TernMachine) (s : List Tern) (pattern : List (List Tern)) → length (pattern_trail m s pattern) ≡ length pattern + 1
 length-trail m s [] = refl
-length-trail m s (input ∷ word) = omega (arith, length-trail m (m.step s (map known input)) word)
+length-trail m s (places ∷ pattern) = omega (arith, length-trail m (m.step s places) pattern)
 
--- the last of the states is the one behind the word
+-- the last of the states is the one behind the pattern
 pub last-trail :
-    (m : TernMachine) (s : List Tern) (word : List (List Bool)) → slice_get (tern_trail m s word) (length word) ≡ Some (tern_after m s word)
+    (m : TernMachine) (s : List Tern) (pattern : List (List Tern))
+    → slice_get (pattern_trail m s pattern) (length pattern) ≡ Some (pattern_after m s pattern)
 last-trail m s [] = refl
-last-trail m s (input ∷ word) = last-trail m (m.step s (map known input)) word
+last-trail m s (places ∷ pattern) = last-trail m (m.step s places) pattern
 
 -- the states of a whole run, from those before its last state
 pub trail_end :
-    (m : TernMachine) (start s : List Tern) (word : List (List Bool)) (i : ℕ) (states states' : List (List Tern))
-    → length word ≤ i → tern_trail m start word ≡ states ++ tern_trail m s (drop i word) → states' ≡ states ++ s ∷ []
-    → states' ≡ tern_trail m start word
-trail_end m start s word i states states' past so_far push =
-    let none : drop i word ≡ [] = nil_from_length (drop i word) (omega (arith, length-drop {A = List Bool})) in
-    let end : tern_trail m start word ≡ states ++ s ∷ [] = rw none at so_far in
+    (m : TernMachine) (start s : List Tern) (pattern : List (List Tern)) (i : ℕ) (states states' : List (List Tern))
+    → length pattern ≤ i → pattern_trail m start pattern ≡ states ++ pattern_trail m s (drop i pattern) → states' ≡ states ++ s ∷ []
+    → states' ≡ pattern_trail m start pattern
+trail_end m start s pattern i states states' past so_far push =
+    let none : drop i pattern ≡ [] = nil_from_length (drop i pattern) (omega (arith, length-drop {A = List Tern})) in
+    let end : pattern_trail m start pattern ≡ states ++ s ∷ [] = rw none at so_far in
     cc
+
+-- a word of known inputs is a pattern over the inputs, of as many cycles
+pub word-pattern : (m : Machine) (word : List (List Bool)) → IsWord m word → IsPattern m (known_pattern word)
+word-pattern m [] h = tt
+word-pattern m (input ∷ word) h = (length-map input known ∙ h.0, word-pattern m word h.1)

@@ -1,2 +1,2 @@
 pub mod Trails
-pub mod Support
+pub mod Supports

@@ -1,5 +1,6 @@
 ghost use Rattle.std.specs.Prelude.{◌≡◌, ◌&&◌, List, Bool, length, IfOk};
-ghost use Rattle.rst_sim.specs.Support.{IsWithin, IsClosedSet, narrowed, members};
+ghost use Rattle.rst_gate.specs.ClosedSets.{IsWithin, IsClosedSet};
+ghost use Rattle.rst_sim.specs.Supports.{narrowed, members};
 
 use crate::support::support;
 use rst_gate::{Bits, Gates};

@@ -3,10 +3,10 @@
 #![tactic(auto)]
 
 mod closed;
+mod cycle;
 mod run;
 mod support;
-#[cfg(test)]
-mod tests;
 
 pub use closed::closed_equal;
-pub use run::{TernTrace, Trace, tern_run, two_run};
+pub use cycle::{tern_cycle, two_cycle};
+pub use run::{TernTrace, Trace, tern_run, tern_run_free, two_run};

@@ -1,6 +1,7 @@
 // A reading of gates that says what lies below each node.
 ghost use Rattle.std.specs.Prelude.{◌≡◌, [], None, true, length, IfOk};
-ghost use Rattle.rst_sim.specs.Support.{supports, next_support};
+ghost use Rattle.rst_gate.specs.ClosedSets.{next_support};
+ghost use Rattle.rst_sim.specs.Supports.{supports};
 
 use rst_gate::{Gates, eval};
 use rst_outside::NoMemory;
@@ -20,6 +21,8 @@ impl Domain for SupportDomain {
     ghost stands = { λ _ _ _ _. Unit {0} };
 
     ghost content = { λ _. [] };
+
+    ghost aside = { λ _. tt };
 
     ghost named = { supports };
 

@@ -1,5 +1,6 @@
 -- The rows of a tree in memory are the lists of its plain form.
-use Rattle.std.proofs.Common.{◌≡◌, ◌∙◌, refl, ap, ℕ, suc, max, ◌≤◌, List, drop, length}
+use Rattle.std.proofs.Common.{◌≡◌, ◌∙◌, refl, sym, ap, ℕ, zero, suc, ◌+◌, max, ◌<◌, ◌≤◌, List, [], ◌∷◌, ◌++◌, take, drop, length, get_or, add-one, arith}
+use Rattle.std.proofs.Math.Seq.{take-suc}
 use Rattle.std.proofs.lemmas.List.{at_drop_all}
 use Rattle.std.specs.declared.vec.Vec.{Vec}
 use Rattle.std.specs.declared.boxed.Box.{Box}
@@ -21,7 +22,7 @@ use Rattle.rst_tree.specs.Targets as targets
 use Rattle.rst_tree.specs.Targets.{plain_target, plain_targets, plain_target_row, greatest_target}
 use Rattle.rst_tree.specs.Statements as statements
 use Rattle.rst_tree.specs.Statements.{plain_stmt, plain_stmts, plain_arms, plain_stmt_row, plain_arm_row, Block, Case, labels, otherwise, greatest_of, greatest_of_arms}
-use Rattle.rst_tree.specs.Trees.{plain, plain_row, plain_all, more, Join, Repeat, greatest, height}
+use Rattle.rst_tree.specs.Trees.{Tree, Trees, plain, plain_row, plain_all, end, more, appended, Join, Repeat, greatest, height}
 
 plain_row-items : {n : Count} (k : Row_of-Expr n) → plain_row k ≡ plain_all (items-the_row-Expr n k)
 plain_row-items end_of-Expr = refl
@@ -79,3 +80,38 @@ greatest_of-none xs i h = at_drop_all (λ ys. greatest_of (plain_stmts ys)) xs i
 
 pub greatest_of_arms-none : (xs : List Arm) (i : ℕ) → length xs ≤ i → greatest_of_arms (plain_arms (drop i xs)) ≡ 0
 greatest_of_arms-none xs i h = at_drop_all (λ ys. greatest_of_arms (plain_arms ys)) xs i h
+
+-- a longer list
+pub push_is : (xs : List Expr) (x : Expr) → plain_all (xs ++ x ∷ []) ≡ appended (plain_all xs) (plain x)
+push_is [] x = refl
+push_is (y ∷ ys) x = ap (more (plain y)) (push_is ys x)
+
+pub take_longer : (i : ℕ) (xs : List Expr) (x : Expr) → x ≡ get_or xs i x → i < length xs → plain_all (take (i + 1) xs) ≡ appended (plain_all (take i xs)) (plain x)
+take_longer i xs x is within =
+    ap (λ n. plain_all (take n xs)) (add-one i) ∙ ap plain_all (take-suc xs i x within) ∙ push_is (take i xs) (get_or xs i x) ∙ ap (λ y. appended (plain_all (take i xs)) (plain y)) (sym is)
+
+-- ---- lists of the same trees
+
+count : Trees → ℕ
+count end = 0
+count (more e es) = suc (count es)
+
+counted : (xs : List Expr) → count (plain_all xs) ≡ length xs
+unfolding count
+counted [] = refl
+counted (x ∷ xs) = ap suc (counted xs)
+
+pub same_length : (xs ys : List Expr) → plain_all xs ≡ plain_all ys → length xs ≡ length ys
+same_length xs ys same = sym (counted xs) ∙ ap count same ∙ counted ys
+
+pub same_at : (xs ys : List Expr) (i : ℕ) (d e : Expr) → plain_all xs ≡ plain_all ys → i < length xs → plain (get_or xs i d) ≡ plain (get_or ys i e)
+same_at [] ys i d e same within = absurd (omega arith)
+same_at (x ∷ xs) [] i d e same within = absurd cc
+same_at (x ∷ xs) (y ∷ ys) zero d e same within = heads (plain x) (plain y) (plain_all xs) (plain_all ys) same
+  where
+    heads : (a b : Tree) (as' bs : Trees) → more a as' ≡ more b bs → a ≡ b
+    heads a b as' bs same = cc
+same_at (x ∷ xs) (y ∷ ys) (suc i) d e same within = same_at xs ys i d e (tails (plain x) (plain y) (plain_all xs) (plain_all ys) same) (omega arith)
+  where
+    tails : (a b : Tree) (as' bs : Trees) → more a as' ≡ more b bs → as' ≡ bs
+    tails a b as' bs same = cc

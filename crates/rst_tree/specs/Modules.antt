@@ -7,7 +7,8 @@ use Rattle.rst_tree.specs.declared.module.Header.{Header}
 use Rattle.rst_tree.specs.declared.module.Header.TheVariants as header
 use Rattle.rst_tree.specs.declared.module.PortDecl.{PortDecl}
 use Rattle.rst_tree.specs.declared.module.Range.{Range}
-use Rattle.rst_tree.specs.declared.module.Param.{Param}
+use Rattle.rst_tree.specs.declared.module.ParamDecl.{ParamDecl}
+use Rattle.rst_tree.specs.declared.module.ParamName.{ParamName}
 use Rattle.rst_tree.specs.declared.module.NetDecl.{NetDecl}
 use Rattle.rst_tree.specs.declared.module.NetName.{NetName}
 use Rattle.rst_tree.specs.declared.module.Item.{Item}
@@ -37,12 +38,15 @@ pub record PlainPortDecl : Type 0 where
   pub range : Option PlainRange
   pub names : List Text
 
-pub record PlainParam : Type 0 where
+pub record PlainParamName : Type 0 where
+  pub name : Text
+  pub value : Tree
+
+pub record PlainParamDecl : Type 0 where
   pub local : Bool
   pub signed : Bool
   pub range : Option PlainRange
-  pub name : Text
-  pub value : Tree
+  pub names : List PlainParamName
 
 pub record PlainNetName : Type 0 where
   pub name : Text
@@ -87,7 +91,7 @@ pub record PlainInstance : Type 0 where
 pub data PlainItem : Type 0 where
   Port : PlainPortDecl → PlainItem
   Net : PlainNetDecl → PlainItem
-  Params : List PlainParam → PlainItem
+  Params : PlainParamDecl → PlainItem
   Assigns : List PlainAssign → PlainItem
   AlwaysBlock : PlainAlways → PlainItem
   Instances : PlainInstance → PlainItem
@@ -98,7 +102,7 @@ pub data PlainHeader : Type 0 where
 
 pub record PlainModule : Type 0 where
   pub name : Text
-  pub params : List PlainParam
+  pub params : List PlainParamDecl
   pub header : PlainHeader
   pub items : List PlainItem
 
@@ -108,8 +112,11 @@ plain_range r = record { high = plain r.high; low = plain r.low }
 abbrev pub plain_port_decl : PortDecl → PlainPortDecl
 plain_port_decl d = record { input = d.input; reg = d.reg; signed = d.signed; range = option_map plain_range d.range; names = d.names.items }
 
-abbrev pub plain_param : Param → PlainParam
-plain_param p = record { local = p.local; signed = p.signed; range = option_map plain_range p.range; name = p.name; value = plain p.value }
+abbrev pub plain_param_name : ParamName → PlainParamName
+plain_param_name n = record { name = n.name; value = plain n.value }
+
+abbrev pub plain_param_decl : ParamDecl → PlainParamDecl
+plain_param_decl d = record { local = d.local; signed = d.signed; range = option_map plain_range d.range; names = map plain_param_name d.names.items }
 
 abbrev pub plain_net_name : NetName → PlainNetName
 plain_net_name n = record { name = n.name; value = option_map plain n.value }
@@ -143,7 +150,7 @@ plain_instance i = record { of_module = i.«module»; params = plain_links i.par
 abbrev pub plain_item : Item → PlainItem
 plain_item (item.Port d) = Port (plain_port_decl d)
 plain_item (item.Net d) = Net (plain_net_decl d)
-plain_item (item.Params ps) = Params (map plain_param ps.items)
+plain_item (item.Params d) = Params (plain_param_decl d)
 plain_item (item.Assign as') = Assigns (map plain_assign as'.items)
 plain_item (item.Always a) = AlwaysBlock (plain_always a)
 plain_item (item.Instance i) = Instances (plain_instance i)
@@ -153,7 +160,7 @@ plain_header (header.Plain names) = Plain names.items
 plain_header (header.Full ports) = Full (map plain_port_decl ports.items)
 
 abbrev pub plain_module : Module → PlainModule
-plain_module m = record { name = m.name; params = map plain_param m.params.items; header = plain_header m.header; items = map plain_item m.items.items }
+plain_module m = record { name = m.name; params = map plain_param_decl m.params.items; header = plain_header m.header; items = map plain_item m.items.items }
 
 abbrev pub plain_source : Source → List PlainModule
 plain_source s = map plain_module s.modules.items
@@ -168,7 +175,7 @@ abbrev pub height_if : {A : Type 0} → (A → ℕ) → Option A → ℕ
 height_if size None = 0
 height_if size (Some x) = size x
 
--- The height of a parameter, a port declaration or an item is the greatest among the nodes in it, 0 where there is none.
+-- The height of a declaration or an item is the greatest among the nodes in it, 0 where there is none.
 -- The height of a module is the greatest over its parameters, the ports of its header and its items.
 abbrev pub height_of_range : PlainRange → ℕ
 height_of_range r = max (height r.high) (height r.low)
@@ -176,8 +183,11 @@ height_of_range r = max (height r.high) (height r.low)
 abbrev pub height_of_port_decl : PlainPortDecl → ℕ
 height_of_port_decl d = height_if height_of_range d.range
 
-abbrev pub height_of_param : PlainParam → ℕ
-height_of_param p = max (height_if height_of_range p.range) (height p.value)
+abbrev pub height_of_param_name : PlainParamName → ℕ
+height_of_param_name n = height n.value
+
+abbrev pub height_of_param_decl : PlainParamDecl → ℕ
+height_of_param_decl d = max (height_if height_of_range d.range) (tallest height_of_param_name d.names)
 
 abbrev pub height_of_net_name : PlainNetName → ℕ
 height_of_net_name n = height_if height n.value
@@ -201,7 +211,7 @@ height_of_copied c = height_of_links c.ports
 abbrev pub height_of_item : PlainItem → ℕ
 height_of_item (Port d) = height_of_port_decl d
 height_of_item (Net d) = height_of_net_decl d
-height_of_item (Params ps) = tallest height_of_param ps
+height_of_item (Params d) = height_of_param_decl d
 height_of_item (Assigns as') = tallest height_of_assign as'
 height_of_item (AlwaysBlock a) = height_of a.body
 height_of_item (Instances i) = max (height_of_links i.params) (tallest height_of_copied i.copies)
@@ -211,4 +221,4 @@ height_of_header (Plain names) = 0
 height_of_header (Full ports) = tallest height_of_port_decl ports
 
 abbrev pub height_of_module : PlainModule → ℕ
-height_of_module m = max (tallest height_of_param m.params) (max (height_of_header m.header) (tallest height_of_item m.items))
+height_of_module m = max (tallest height_of_param_decl m.params) (max (height_of_header m.header) (tallest height_of_item m.items))

@@ -7,15 +7,14 @@
 mod expr;
 mod heights;
 mod module;
+mod same;
 mod stmt;
 
 pub use expr::{Expr, Target};
 pub use heights::{height, height_of};
 pub use module::{
     Always, Assign, Copied, EdgeKind, Event, Events, Header, Instance, Item, Link, Links, Module,
-    NetDecl, NetName, Param, PortDecl, Range, Source,
+    NetDecl, NetName, ParamDecl, ParamName, PortDecl, Range, Source,
 };
+pub use same::{same_expr, same_range};
 pub use stmt::{Arm, CaseStmt, SetStmt, Stmt};
-
-#[cfg(test)]
-mod tests;

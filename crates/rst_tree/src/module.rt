@@ -14,8 +14,8 @@ pub struct Source {
 #[derive(Drop)]
 pub struct Module {
     pub name: Name,
-    /// The parameters of the header.
-    pub params: Vec<Param>,
+    /// The parameters of the header, a declaration for each `parameter`.
+    pub params: Vec<ParamDecl>,
     pub header: Header,
     pub items: Vec<Item>,
 }
@@ -44,12 +44,18 @@ pub struct Range {
     pub low: Expr,
 }
 
-/// A parameter, local where it is a `localparam` (IEEE 1364-2001, annex A.2.1.1).
+/// A declaration of parameters, local ones where it is a `localparam` (IEEE 1364-2001, annex A.2.1.1).
 #[derive(Drop)]
-pub struct Param {
+pub struct ParamDecl {
     pub local: bool,
     pub signed: bool,
     pub range: Option<Range>,
+    pub names: Vec<ParamName>,
+}
+
+/// A declared name, and the value of the parameter.
+#[derive(Drop)]
+pub struct ParamName {
     pub name: Name,
     pub value: Expr,
 }
@@ -75,7 +81,7 @@ pub struct NetName {
 pub enum Item {
     Port(PortDecl),
     Net(NetDecl),
-    Params(Vec<Param>),
+    Params(ParamDecl),
     Assign(Vec<Assign>),
     Always(Always),
     Instance(Instance),

@@ -7,25 +7,22 @@ use Rattle.rst_word.specs.declared.ops.BinaryOp.{BinaryOp}
 use Rattle.rst_word.specs.Words.{PlainWord}
 use Rattle.rst_tree.specs.Trees.{Text, Tree, Trees}
 use Rattle.rst_tree.specs.Trees as tree
-use Rattle.rst_width.specs.declared.scope.Entry.{Entry}
-use Rattle.rst_width.specs.declared.scope.Entry.TheVariants as entry
-use Rattle.rst_width.specs.declared.scope.SignalShape.{SignalShape}
 use Rattle.rst_width.specs.declared.typed_expr.Shape.{Shape}
 use Rattle.rst_width.specs.declared.typed_expr.WidthFault.{WidthFault}
 use Rattle.rst_width.specs.declared.typed_expr.WidthFault.TheVariants.{BadSelect, MayLeaveRange, NotConstant, TooWide, ZeroWidth}
-use Rattle.rst_width.specs.Scopes.{Names}
+use Rattle.rst_width.specs.Scopes.{Names, Meaning, Extent, Signal, Param, Later}
 use Rattle.rst_width.specs.Typed.{Typed, Node, TypedList, end, more, typed, names_signal, node_names, list_names, shape_of, sized_as}
 use Rattle.rst_width.specs.Typed as node
 use Rattle.rst_width.specs.Values.{constant_number, constant_word}
 use Rattle.rst_width.specs.Sized.{Answer, Sized, Found, Earlier, Own, Good, own, larger, in_context, by_itself, ◌>>=◌}
 use Rattle.rst_width.specs.Selects.{signal_at, in_range, place_in, stays_inside, bit_of, bit_found, number_of_part, part_shape, leaves_range, part_of, part_found}
 use Rattle.rst_width.specs.Sizing.{Kind, Arithmetic, Moving, Comparing, Deciding, kind_of, above, above_both, named, unary_sized, binary_sized, decided, one_bit, Parts, with_part, join_found, repeat_shape, repeat_found, counted_found, repeat_sized, sized, sized_parts}
-use Rattle.rst_width.specs.Answers.{HasValue, typed_answer, constant_answer, widened}
+use Rattle.rst_width.specs.Answers.{HasValue, typed_answer, constant_answer, widened_shape}
 use Rattle.rst_width.proofs.OneValue.{same_value}
 use Rattle.rst_width.proofs.Agree.{Agree, on, both_false, left_true, right_true, named_bind, bind_agree, NamedFound, IsFault, AgreeFound, fault_agrees, AgreeSized, leaf, unary, binary, shift, choose, own_agree, in_context_agree, by_itself_agree}
 
 -- what stands at a select names a signal, and is a fault where every signal is NotConstant
-bit_of_named : (i : ℕ) (shape : SignalShape) (e : Typed) → NamedFound (bit_of false i shape e)
+bit_of_named : (i : ℕ) (shape : Extent) (e : Typed) → NamedFound (bit_of false i shape e)
 bit_of_named i shape e =
     let pick = signal_at false (node.Pick i e) in
     let slice = signal_at false (node.Slice i (place_in shape (constant_number e)) 1) in
@@ -36,7 +33,7 @@ bit_of_named i shape e =
     (on (stays_inside shape (shape_of e)) (λ b. NamedFound (cond b pick (Own MayLeaveRange))) refl tt)
     (on (in_range shape (constant_number e)) (λ b. NamedFound (cond b slice (Own BadSelect))) refl tt))
 
-bit_of_fault : (i : ℕ) (shape : SignalShape) (e : Typed) → IsFault (bit_of true i shape e)
+bit_of_fault : (i : ℕ) (shape : Extent) (e : Typed) → IsFault (bit_of true i shape e)
 bit_of_fault i shape e =
     let none : Found = Own NotConstant in
     let variable = cond (stays_inside shape (shape_of e)) none (Own MayLeaveRange) in
@@ -46,19 +43,21 @@ bit_of_fault i shape e =
     (on (stays_inside shape (shape_of e)) (λ b. IsFault (cond b none (Own MayLeaveRange))) tt tt)
     (on (in_range shape (constant_number e)) (λ b. IsFault (cond b none (Own BadSelect))) tt tt))
 
-bit_named : (name : Text) (found : Option Entry) (index : Answer) → NamedFound (bit_found false name found index)
+bit_named : (name : Text) (found : Option Meaning) (index : Answer) → NamedFound (bit_found false name found index)
 bit_named name found (Err e) = tt
 bit_named name None (Ok e) = tt
-bit_named name (Some (entry.Param w)) (Ok e) = tt
-bit_named name (Some (entry.Signal i shape)) (Ok e) = bit_of_named i shape e
+bit_named name (Some (Param w)) (Ok e) = tt
+bit_named name (Some (Signal i shape)) (Ok e) = bit_of_named i shape e
+bit_named name (Some (Later ranged)) (Ok e) = tt
 
-bit_fault : (name : Text) (found : Option Entry) (index : Answer) → IsFault (bit_found true name found index)
+bit_fault : (name : Text) (found : Option Meaning) (index : Answer) → IsFault (bit_found true name found index)
 bit_fault name found (Err e) = tt
 bit_fault name None (Ok e) = tt
-bit_fault name (Some (entry.Param w)) (Ok e) = tt
-bit_fault name (Some (entry.Signal i shape)) (Ok e) = bit_of_fault i shape e
+bit_fault name (Some (Param w)) (Ok e) = tt
+bit_fault name (Some (Signal i shape)) (Ok e) = bit_of_fault i shape e
+bit_fault name (Some (Later ranged)) (Ok e) = tt
 
-part_of_named : (i : ℕ) (shape : SignalShape) (high low : Option ℤ) → NamedFound (part_of false i shape high low)
+part_of_named : (i : ℕ) (shape : Extent) (high low : Option ℤ) → NamedFound (part_of false i shape high low)
 part_of_named i shape (Some h) (Some l) =
     on (not shape.ranged || (leaves_range shape (Some h) || (leaves_range shape (Some l) || not (int_le l h))))
     (λ b. NamedFound (cond b (Own BadSelect) (Good (node.Slice i (place_in shape l) (suc (unsigned_abs (h -ℤ l))))))) tt refl
@@ -69,7 +68,7 @@ part_of_named i shape (Some h) None =
 part_of_named i shape None None =
     on (not shape.ranged || (leaves_range shape None || leaves_range shape None)) (λ b. NamedFound (cond b (Own BadSelect) (Own NotConstant))) tt tt
 
-part_of_fault : (i : ℕ) (shape : SignalShape) (high low : Option ℤ) → IsFault (part_of true i shape high low)
+part_of_fault : (i : ℕ) (shape : Extent) (high low : Option ℤ) → IsFault (part_of true i shape high low)
 part_of_fault i shape (Some h) (Some l) =
     on (not shape.ranged || (leaves_range shape (Some h) || (leaves_range shape (Some l) || not (int_le l h)))) (λ b. IsFault (cond b (Own BadSelect) (Own NotConstant))) tt tt
 part_of_fault i shape None (Some l) =
@@ -79,19 +78,21 @@ part_of_fault i shape (Some h) None =
 part_of_fault i shape None None =
     on (not shape.ranged || (leaves_range shape None || leaves_range shape None)) (λ b. IsFault (cond b (Own BadSelect) (Own NotConstant))) tt tt
 
-part_named : (name : Text) (found : Option Entry) (high low : Answer) → NamedFound (part_found false name found high low)
+part_named : (name : Text) (found : Option Meaning) (high low : Answer) → NamedFound (part_found false name found high low)
 part_named name found (Err e) low = tt
 part_named name found (Ok h) (Err e) = tt
 part_named name None (Ok h) (Ok l) = tt
-part_named name (Some (entry.Param w)) (Ok h) (Ok l) = tt
-part_named name (Some (entry.Signal i shape)) (Ok h) (Ok l) = part_of_named i shape (number_of_part (Ok h)) (number_of_part (Ok l))
+part_named name (Some (Param w)) (Ok h) (Ok l) = tt
+part_named name (Some (Signal i shape)) (Ok h) (Ok l) = part_of_named i shape (number_of_part (Ok h)) (number_of_part (Ok l))
+part_named name (Some (Later ranged)) (Ok h) (Ok l) = tt
 
-part_fault : (name : Text) (found : Option Entry) (high low : Answer) → IsFault (part_found true name found high low)
+part_fault : (name : Text) (found : Option Meaning) (high low : Answer) → IsFault (part_found true name found high low)
 part_fault name found (Err e) low = tt
 part_fault name found (Ok h) (Err e) = tt
 part_fault name None (Ok h) (Ok l) = tt
-part_fault name (Some (entry.Param w)) (Ok h) (Ok l) = tt
-part_fault name (Some (entry.Signal i shape)) (Ok h) (Ok l) = part_of_fault i shape (number_of_part (Ok h)) (number_of_part (Ok l))
+part_fault name (Some (Param w)) (Ok h) (Ok l) = tt
+part_fault name (Some (Signal i shape)) (Ok h) (Ok l) = part_of_fault i shape (number_of_part (Ok h)) (number_of_part (Ok l))
+part_fault name (Some (Later ranged)) (Ok h) (Ok l) = tt
 
 -- a part that has to be constant has the same number
 number_agree : (x y : Answer) → Agree names_signal x y → number_of_part x ≡ number_of_part y
@@ -137,10 +138,11 @@ binary_agree Comparing op {a} {b} {c} {d} h k =
     (subst (λ (o : Shape). Agree names_signal (in_context true c (larger (own a) (own c))) (in_context true d o)) both (in_context_agree _ k))
 binary_agree Deciding op {a} {b} {c} {d} h k = decided_agree op (by_itself a) (by_itself b) (by_itself c) (by_itself d) (by_itself_agree h) (by_itself_agree k)
 
-named_agree : (name : Text) (found : Option Entry) → AgreeSized (named false name found) (named true name found)
+named_agree : (name : Text) (found : Option Meaning) → AgreeSized (named false name found) (named true name found)
 named_agree name None = leaf _ _ _ _ refl tt
-named_agree name (Some (entry.Signal i shape)) = leaf _ _ _ _ refl refl
-named_agree name (Some (entry.Param w)) = leaf _ _ _ _ refl (refl, refl)
+named_agree name (Some (Signal i shape)) = leaf _ _ _ _ refl refl
+named_agree name (Some (Param w)) = leaf _ _ _ _ refl (refl, refl)
+named_agree name (Some (Later ranged)) = leaf _ _ _ _ refl tt
 
 -- parts that stand by themselves
 pub record AgreeParts (p q : Parts) : Type 0 where
@@ -236,11 +238,11 @@ mutual
 
 -- what `constant` types, and what `typed` does
 answers_agree : (names : Names) (e : Tree) (width : ℕ)
-    → Agree names_signal (typed_answer names e width) (in_context true (sized true names e) (widened (sized true names e) width))
+    → Agree names_signal (typed_answer names e width) (in_context true (sized true names e) (widened_shape (own (sized true names e)) width))
 answers_agree names e width =
     let both = sized_agree names e in
-    subst (λ (o : Shape). Agree names_signal (typed_answer names e width) (in_context true (sized true names e) (record { width = max o.width width; signed = o.signed })))
-    (own_agree both) (in_context_agree (widened (sized false names e) width) both)
+    subst (λ (o : Shape). Agree names_signal (typed_answer names e width) (in_context true (sized true names e) (widened_shape o width)))
+    (own_agree both) (in_context_agree (widened_shape (own (sized false names e)) width) both)
 
 word_only : (r s : Answer) (w : PlainWord) → Agree names_signal r s → (s >>= λ t. Ok (constant_word t)) ≡ Ok w
     → (t : Typed) × (r ≡ Ok t) × (names_signal t ≡ false) × (constant_word t ≡ w)

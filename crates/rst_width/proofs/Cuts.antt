@@ -1,11 +1,11 @@
 -- Cut widths give the same typed expressions and faults as whole ones.
-use Rattle.std.proofs.Common.{◌≡◌, ℕ, min, ◌<◌, ◌≤◌, Bool, true, false, Ok, Err, refl, ap, arith, nat_lt, inl, inr}
+use Rattle.std.proofs.Common.{◌≡◌, ℕ, min, max, ◌<◌, ◌≤◌, Bool, true, false, Ok, Err, refl, ap, arith, nat_lt, inl, inr}
 use Rattle.std.proofs.lemmas.Bool.{le-ltb, lt-ltb}
 use Rattle.std.proofs.lemmas.Bool.Decides.{leb_tells}
 use Rattle.rst_width.specs.declared.typed_expr.Shape.{Shape}
 use Rattle.rst_width.specs.declared.typed_expr.WidthFault.{WidthFault}
 use Rattle.rst_width.specs.declared.typed_expr.WidthFault.TheVariants.{TooWide}
-use Rattle.rst_width.specs.Typed.{Node}
+use Rattle.rst_width.specs.Typed.{Node, sized_as}
 use Rattle.rst_width.specs.Sized.{Sized, Leaf, Unary, Binary, Shift, Choose, Earlier, Own, Good, own, larger, in_context, by_itself, brought}
 use Rattle.rst_width.specs.Cut.{cut, cut_shape}
 
@@ -84,6 +84,18 @@ in_context-cut tests s context =
     elim (leb_tells context.width 64) [
       | inl t ↦ rw (same_when_narrow context t.1) (narrow tests s context t.1)
       | inr t ↦ rw (wide tests (cut s) (cut_shape context) (omega arith), wide tests s context t.1) (ap Err (wide_fault-cut s))
+    ]
+
+-- two contexts above 64 bits
+pub wide_alike : (tests : Bool) (s : Sized) (a b : Shape) → 64 < a.width → 64 < b.width → in_context tests (cut s) a ≡ in_context tests s b
+wide_alike tests s a b h k = rw (wide tests (cut s) a h, wide tests s b k) (ap Err (wide_fault-cut s))
+
+-- In a context as wide as a cut width or another one, an expression becomes what it becomes with the whole width there.
+pub wider-cut : (tests : Bool) (s : Sized) (w c : ℕ) (signed : Bool) → in_context tests (cut s) (sized_as (max (min w 65) c) signed) ≡ in_context tests s (sized_as (max w c) signed)
+wider-cut tests s w c signed =
+    elim (leb_tells (max w c) 64) [
+      | inl t ↦ rw (with_width (max (min w 65) c) (max w c) signed (omega arith)) (narrow tests s (sized_as (max w c) signed) t.1)
+      | inr t ↦ wide_alike tests s (sized_as (max (min w 65) c) signed) (sized_as (max w c) signed) (omega arith) (omega arith)
     ]
 
 pub by_itself-cut : (s : Sized) → by_itself (cut s) ≡ by_itself s

@@ -1,7 +1,9 @@
 pub mod Agree
+pub mod AnswersFit
 pub mod AgreeSizing
 pub mod Cuts
 pub mod Fits
+pub mod NameTables
 pub mod OneValue
 pub mod Outcomes
 pub mod PartLists
@@ -9,5 +11,8 @@ pub mod ReadsSized
 pub mod Rows
 pub mod SizingCuts
 pub mod SizingFits
+pub mod TableRows
+pub mod TargetSizing
+pub mod ValueWords
 pub mod Walks
 pub mod Words

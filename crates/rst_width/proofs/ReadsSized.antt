@@ -8,16 +8,11 @@ use Rattle.rst_word.specs.declared.ops.UnaryOp.TheVariants as unary
 use Rattle.rst_word.specs.declared.ops.BinaryOp.{BinaryOp}
 use Rattle.rst_tree.specs.Trees.{Text, Tree, Trees}
 use Rattle.rst_tree.specs.Trees as tree
-use Rattle.rst_width.specs.declared.scope.Entry.{Entry}
-use Rattle.rst_width.specs.declared.scope.Entry.TheVariants as entry
-use Rattle.rst_width.specs.declared.scope.SignalShape.{SignalShape}
 use Rattle.rst_width.specs.declared.typed_expr.Shape.{Shape}
 use Rattle.rst_width.specs.declared.typed_expr.WidthFault.{WidthFault}
 use Rattle.rst_width.specs.declared.typed_expr.WidthFault.TheVariants.{TooWide, ZeroWidth, BadSelect, MayLeaveRange, NotConstant, ZeroDivisor}
-use Rattle.rst_width.specs.declared.typed_expr.TypedExpr.{TypedExpr}
-use Rattle.rst_width.specs.Scopes.{Names}
-use Rattle.rst_width.specs.Plain.{plain_answer}
-use Rattle.rst_width.specs.Typed.{Typed, Node, TypedList, plain_typed, typed, shape_of, sized_as, names_signal, end, more}
+use Rattle.rst_width.specs.Scopes.{Names, Meaning, Extent, Signal, Param, Later, AreMeanings}
+use Rattle.rst_width.specs.Typed.{Typed, Node, TypedList, typed, shape_of, sized_as, names_signal, end, more}
 use Rattle.rst_width.specs.Typed as node
 use Rattle.rst_width.specs.Values.{constant_number, constant_word}
 use Rattle.rst_width.specs.Sized.{Answer, Sized, Found, Leaf, Unary, Binary, Shift, Choose, Earlier, Own, Good, own, larger, in_context, by_itself, brought, operated, is_division}
@@ -97,7 +92,7 @@ module _ (widths : ℕ → ℕ) where
   signal_at-reads : (shape : Shape) (constant : Bool) (n : Node) → ((signed : Bool) → NodeReadsInside widths (sized_as shape.width signed) n) → FoundReads shape (signal_at constant n)
   signal_at-reads shape constant n h = when (FoundReads shape) constant (Own NotConstant) (Good n) (λ _. tt) (λ _. h)
 
-  variable_fits : (shape : SignalShape) (index : Shape) → stays_inside shape index ≡ true → 2 ^ index.width ≤ shape.width
+  variable_fits : (shape : Extent) (index : Shape) → stays_inside shape index ≡ true → 2 ^ index.width ≤ shape.width
   variable_fits shape index h = go index.signed (nat_eq shape.low 0) h
     where
       last : (b : Bool) → not b ≡ true → b ≡ false
@@ -116,30 +111,30 @@ module _ (widths : ℕ → ℕ) where
   place_below : (low width : ℕ) (place : ℤ) → 0 < width → int_le (pos low) place ≡ true → int_le place (pos (low + width - 1)) ≡ true → unsigned_abs (place -ℤ pos low) + 1 ≤ width
   place_below low width place some h k = grind (arith, ints)
 
-  place_fits : (shape : SignalShape) (place : ℤ) → in_range shape place ≡ true → place_in shape place + 1 ≤ shape.width
-  place_fits shape place h = let ends = both_true _ _ h in place_below shape.low shape.width place shape.some_bits ends.0 ends.1
+  place_fits : (shape : Extent) (place : ℤ) → 0 < shape.width → in_range shape place ≡ true → place_in shape place + 1 ≤ shape.width
+  place_fits shape place some h = let ends = both_true _ _ h in place_below shape.low shape.width place some ends.0 ends.1
 
   part_below : (low width : ℕ) (from to : ℤ) → 0 < width → int_le (pos low) from ≡ true → int_le to (pos (low + width - 1)) ≡ true → int_le from to ≡ true
       → unsigned_abs (from -ℤ pos low) + suc (unsigned_abs (to -ℤ from)) ≤ width
   part_below low width from to some h k o = grind (arith, ints)
 
-  part_fits : (shape : SignalShape) (high low : ℤ) → in_range shape high ≡ true → in_range shape low ≡ true → int_le low high ≡ true → place_in shape low + suc (unsigned_abs (high -ℤ low)) ≤ shape.width
-  part_fits shape high low h k o =
+  part_fits : (shape : Extent) (high low : ℤ) → 0 < shape.width → in_range shape high ≡ true → in_range shape low ≡ true → int_le low high ≡ true → place_in shape low + suc (unsigned_abs (high -ℤ low)) ≤ shape.width
+  part_fits shape high low some h k o =
       let above = both_true _ _ h in
       let below = both_true _ _ k in
-      part_below shape.low shape.width low high shape.some_bits below.0 above.1 o
+      part_below shape.low shape.width low high some below.0 above.1 o
 
-  bit_of-reads : (constant : Bool) (i : ℕ) (shape : SignalShape) (index : Typed) → widths i ≡ shape.width → ReadsInside widths index → FoundReads one_bit (bit_of constant i shape index)
-  bit_of-reads constant i shape index same reads =
+  bit_of-reads : (constant : Bool) (i : ℕ) (shape : Extent) (index : Typed) → 0 < shape.width → widths i ≡ shape.width → ReadsInside widths index → FoundReads one_bit (bit_of constant i shape index)
+  bit_of-reads constant i shape index some same reads =
       when (FoundReads one_bit) (not shape.ranged) (Own BadSelect) _ (λ _. tt)
       (λ _. when (FoundReads one_bit) (names_signal index) _ _
       (λ _. when (FoundReads one_bit) (stays_inside shape (shape_of index)) (signal_at constant (node.Pick i index)) (Own MayLeaveRange)
       (λ t. signal_at-reads one_bit constant (node.Pick i index) (λ _. (omega (arith, variable_fits shape (shape_of index) t, same), reads))) (λ _. tt))
       (λ _. when (FoundReads one_bit) (in_range shape (constant_number index)) (signal_at constant (node.Slice i (place_in shape (constant_number index)) 1)) (Own BadSelect)
-      (λ t. signal_at-reads one_bit constant (node.Slice i (place_in shape (constant_number index)) 1) (λ _. omega (arith, place_fits shape (constant_number index) t, same))) (λ _. tt)))
+      (λ t. signal_at-reads one_bit constant (node.Slice i (place_in shape (constant_number index)) 1) (λ _. omega (arith, place_fits shape (constant_number index) some t, same))) (λ _. tt)))
 
-  part_of-reads : (constant : Bool) (i : ℕ) (shape : SignalShape) (whole : Shape) (high low : Option ℤ) → widths i ≡ shape.width → FoundReads whole (part_of constant i shape high low)
-  part_of-reads constant i shape whole (Some high) (Some low) same = go (not shape.ranged) (in_range shape high) (in_range shape low) (int_le low high) refl refl refl
+  part_of-reads : (constant : Bool) (i : ℕ) (shape : Extent) (whole : Shape) (high low : Option ℤ) → 0 < shape.width → widths i ≡ shape.width → FoundReads whole (part_of constant i shape high low)
+  part_of-reads constant i shape whole (Some high) (Some low) some same = go (not shape.ranged) (in_range shape high) (in_range shape low) (int_le low high) refl refl refl
     where
       go : (scalar h l o : Bool) → h ≡ in_range shape high → l ≡ in_range shape low → o ≡ int_le low high
           → FoundReads whole (cond (scalar || (not h || (not l || not o))) (Own BadSelect) (signal_at constant (node.Slice i (place_in shape low) (suc (unsigned_abs (high -ℤ low))))))
@@ -148,9 +143,9 @@ module _ (widths : ℕ → ℕ) where
       go false true false o e f g = tt
       go false true true false e f g = tt
       go false true true true e f g =
-          signal_at-reads whole constant (node.Slice i (place_in shape low) (suc (unsigned_abs (high -ℤ low)))) (λ _. omega (arith, part_fits shape high low (sym e) (sym f) (sym g), same))
-  part_of-reads constant i shape whole (Some high) None same = when (FoundReads whole) _ (Own BadSelect) (Own NotConstant) (λ _. tt) (λ _. tt)
-  part_of-reads constant i shape whole None low same = when (FoundReads whole) _ (Own BadSelect) (Own NotConstant) (λ _. tt) (λ _. tt)
+          signal_at-reads whole constant (node.Slice i (place_in shape low) (suc (unsigned_abs (high -ℤ low)))) (λ _. omega (arith, part_fits shape high low some (sym e) (sym f) (sym g), same))
+  part_of-reads constant i shape whole (Some high) None some same = when (FoundReads whole) _ (Own BadSelect) (Own NotConstant) (λ _. tt) (λ _. tt)
+  part_of-reads constant i shape whole None low some same = when (FoundReads whole) _ (Own BadSelect) (Own NotConstant) (λ _. tt) (λ _. tt)
 
   above-reads : (shape : Shape) (a : Answer) (make : Typed → Node) → IfOk a (ReadsInside widths) → ((x : Typed) → ReadsInside widths x → FoundReads shape (Good (make x))) → FoundReads shape (above a make)
   above-reads shape (Ok x) make h k = k x h
@@ -195,25 +190,28 @@ module _ (widths : ℕ → ℕ) where
   counted-reads whole (Ok count) width (Err fault) h = tt
   counted-reads whole (Ok count) width (Ok parts) h = repeat_found-reads whole (number_of_part (Ok count)) width parts h
 
-module _ (widths : ℕ → ℕ) (names : Names) (right : HaveWidths widths names) where
-  named-reads : (constant : Bool) (name : Text) (e : Option Entry) → names name ≡ e → SizedReads widths (named constant name e)
+module _ (widths : ℕ → ℕ) (names : Names) (meant : AreMeanings names) (right : HaveWidths widths names) where
+  named-reads : (constant : Bool) (name : Text) (e : Option Meaning) → names name ≡ e → SizedReads widths (named constant name e)
   named-reads constant name None is = tt
-  named-reads constant name (Some (entry.Signal i shape)) is = signal_at-reads widths (sized_as shape.width shape.signed) constant (node.Signal i) (λ _. right name i shape is)
-  named-reads constant name (Some (entry.Param w)) is = λ _. tt
+  named-reads constant name (Some (Signal i shape)) is = signal_at-reads widths (sized_as shape.width shape.signed) constant (node.Signal i) (λ _. right name i shape is)
+  named-reads constant name (Some (Param w)) is = λ _. tt
+  named-reads constant name (Some (Later ranged)) is = tt
 
-  bit-reads : (constant : Bool) (name : Text) (e : Option Entry) (index : Answer) → names name ≡ e → IfOk index (ReadsInside widths) → FoundReads widths one_bit (bit_found constant name e index)
+  bit-reads : (constant : Bool) (name : Text) (e : Option Meaning) (index : Answer) → names name ≡ e → IfOk index (ReadsInside widths) → FoundReads widths one_bit (bit_found constant name e index)
   bit-reads constant name e (Err fault) is h = tt
   bit-reads constant name None (Ok index) is h = tt
-  bit-reads constant name (Some (entry.Param w)) (Ok index) is h = tt
-  bit-reads constant name (Some (entry.Signal i shape)) (Ok index) is h = bit_of-reads widths constant i shape index (right name i shape is) h
+  bit-reads constant name (Some (Param w)) (Ok index) is h = tt
+  bit-reads constant name (Some (Signal i shape)) (Ok index) is h = bit_of-reads widths constant i shape index (meant name _ is).some_bits (right name i shape is) h
+  bit-reads constant name (Some (Later ranged)) (Ok index) is h = tt
 
-  part-reads : (whole : Shape) (constant : Bool) (name : Text) (e : Option Entry) (high low : Answer) → names name ≡ e → FoundReads widths whole (part_found constant name e high low)
+  part-reads : (whole : Shape) (constant : Bool) (name : Text) (e : Option Meaning) (high low : Answer) → names name ≡ e → FoundReads widths whole (part_found constant name e high low)
   part-reads whole constant name e (Err fault) low is = tt
   part-reads whole constant name e (Ok high) (Err fault) is = tt
   part-reads whole constant name None (Ok high) (Ok low) is = tt
-  part-reads whole constant name (Some (entry.Param w)) (Ok high) (Ok low) is = tt
-  part-reads whole constant name (Some (entry.Signal i shape)) (Ok high) (Ok low) is =
-      part_of-reads widths constant i shape whole (number_of_part (Ok high)) (number_of_part (Ok low)) (right name i shape is)
+  part-reads whole constant name (Some (Param w)) (Ok high) (Ok low) is = tt
+  part-reads whole constant name (Some (Signal i shape)) (Ok high) (Ok low) is =
+      part_of-reads widths constant i shape whole (number_of_part (Ok high)) (number_of_part (Ok low)) (meant name _ is).some_bits (right name i shape is)
+  part-reads whole constant name (Some (Later ranged)) (Ok high) (Ok low) is = tt
 
   mutual
     pub sized-reads : (constant : Bool) (e : Tree) → SizedReads widths (sized constant names e)
@@ -239,8 +237,3 @@ module _ (widths : ℕ → ℕ) (names : Names) (right : HaveWidths widths names
   -- what is typed of an expression in a context that is at least as wide
   pub typed-reads : (tests constant : Bool) (e : Tree) (context : Shape) → (own (sized constant names e)).width ≤ context.width → IfOk (in_context tests (sized constant names e) context) (ReadsInside widths)
   typed-reads tests constant e context wide = in_context-reads widths tests (sized constant names e) context (sized-reads constant e) wide
-
--- an answer of the code, by its plain form
-pub answer-reads : (widths : ℕ → ℕ) (r : Result TypedExpr WidthFault) (a : Answer) → plain_answer r ≡ a → IfOk a (ReadsInside widths) → IfOk r (λ e. ReadsInside widths (plain_typed e))
-answer-reads widths (Ok e) a is reads = subst (λ (x : Answer). IfOk x (ReadsInside widths)) (sym is) reads
-answer-reads widths (Err fault) a is reads = tt

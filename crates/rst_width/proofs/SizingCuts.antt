@@ -13,7 +13,7 @@ use Rattle.rst_tree.specs.declared.expr.Expr.{Expr}
 use Rattle.rst_tree.specs.Trees.{Tree, Trees, plain, plain_all}
 use Rattle.rst_tree.specs.Trees as tree
 use Rattle.rst_width.specs.declared.typed_expr.Shape.{Shape}
-use Rattle.rst_width.specs.Scopes.{Names}
+use Rattle.rst_width.specs.Scopes.{Names, AreMeanings}
 use Rattle.rst_width.specs.declared.typed_expr.WidthFault.{WidthFault}
 use Rattle.rst_width.specs.declared.typed_expr.WidthFault.TheVariants.{TooWide, ZeroWidth}
 use Rattle.rst_width.specs.Typed.{Typed, Node, TypedList, end, more, appended, sized_as}
@@ -192,8 +192,8 @@ module _ (constant : Bool) (names : Names) where
   all_parts xs i front total behind small is =
       sym (followed_by-all front small) ∙ ap (followed_by front) (sym (at_drop_all (λ (ys : List Expr). sized_parts constant names (plain_all ys)) xs i behind)) ∙ is
 
-  pub sized_is_fit : (e : Tree) (s : Sized) → s ≡ cut (sized constant names e) → IsFitSized s
-  sized_is_fit e s is = subst IsFitSized (sym is) (cut-fit (sized constant names e) (sized-fit constant names e))
+  pub sized_is_fit : AreMeanings names → (e : Tree) (s : Sized) → s ≡ cut (sized constant names e) → IsFitSized s
+  sized_is_fit right e s is = subst IsFitSized (sym is) (cut-fit (sized constant names e) (sized-fit constant names right e))
 
   -- parts that fit have a width
   fit_width : (width : ℕ) (list : Result TypedList WidthFault) → IfOk list (AreFitAt width) → IfOk list (HasWidth (cut_width width))
@@ -201,9 +201,9 @@ module _ (constant : Bool) (names : Names) where
   fit_width width (Ok (more x xs)) h = let some = some_width x xs h.fit in omega (arith, h.sum)
   fit_width width (Err fault) h = tt
 
-  pub parts_have_width : (ts : Trees) (p : Parts) → p ≡ cut_parts (sized_parts constant names ts) → IfOk p.list (HasWidth p.width)
-  parts_have_width ts p is =
+  pub parts_have_width : AreMeanings names → (ts : Trees) (p : Parts) → p ≡ cut_parts (sized_parts constant names ts) → IfOk p.list (HasWidth p.width)
+  parts_have_width right ts p is =
       let total = sized_parts constant names ts in
-      subst (λ (x : Parts). IfOk x.list (HasWidth x.width)) (sym is) (fit_width total.width total.list (sized_parts-fit constant names ts))
+      subst (λ (x : Parts). IfOk x.list (HasWidth x.width)) (sym is) (fit_width total.width total.list (sized_parts-fit constant names right ts))
 
 pub ruleset sizing_cuts = (unary_sized-cut, binary_sized-cut, cast_sized-cut, by_itself-cut, repeat_sized-cut)

@@ -1,6 +1,6 @@
 -- What is sized fits together.
 use Rattle.std.proofs.Common.{◌≡◌, ℕ, suc, ◌+◌, ◌*◌, min, ◌<◌, Bool, true, false, cond, not, ◌||◌, Ok, Err, Some, None, Option, refl, ap, sym, subst, ◌∙◌, arith, nat_lt, Result}
-use Rattle.std.specs.Prelude.{IfOk, ℤ, pos, int_le, unsigned_abs, ◌-ℤ◌}
+use Rattle.std.specs.Prelude.{IfOk, IfSome, ℤ, pos, int_le, unsigned_abs, ◌-ℤ◌}
 use Rattle.std.proofs.lemmas.Int.{ints}
 use Rattle.std.proofs.Math.Nat.{mul-pos}
 use Rattle.rst_lex.specs.declared.token.Literal.{Literal}
@@ -9,13 +9,10 @@ use Rattle.rst_word.specs.declared.ops.UnaryOp.TheVariants as unary
 use Rattle.rst_word.specs.declared.ops.BinaryOp.{BinaryOp}
 use Rattle.rst_tree.specs.Trees.{Text, Tree, Trees}
 use Rattle.rst_tree.specs.Trees as tree
-use Rattle.rst_width.specs.declared.scope.Entry.{Entry}
-use Rattle.rst_width.specs.declared.scope.Entry.TheVariants as entry
-use Rattle.rst_width.specs.declared.scope.SignalShape.{SignalShape}
 use Rattle.rst_width.specs.declared.typed_expr.Shape.{Shape}
 use Rattle.rst_width.specs.declared.typed_expr.WidthFault.{WidthFault}
 use Rattle.rst_width.specs.declared.typed_expr.WidthFault.TheVariants.{BadSelect, NotConstant, MayLeaveRange, TooWide, ZeroWidth}
-use Rattle.rst_width.specs.Scopes.{Names}
+use Rattle.rst_width.specs.Scopes.{Names, Meaning, Extent, Signal, Param, Later, IsMeaning, AreMeanings}
 use Rattle.rst_width.specs.Typed.{Typed, Node, TypedList, typed, shape_of, sized_as, names_signal, end, more}
 use Rattle.rst_width.specs.Typed as node
 use Rattle.rst_width.specs.Values.{constant_number}
@@ -37,12 +34,18 @@ signal_at-fit shape constant n h = either (IsFitFound shape) constant (Own NotCo
 number-fit : (n : Literal) → IsFitSized (Leaf (sized_as n.width n.signed) (Good (node.Word (record { width = n.width; signed = n.signed; value = n.value }))))
 number-fit n = (omega (arith, n.not_empty), λ _ _. (record { some_bits = omega (arith, n.not_empty); at_most_64 = n.in_word; fits = n.value_fits }, refl))
 
-named-fit : (constant : Bool) (name : Text) (e : Option Entry) → IsFitSized (named constant name e)
-named-fit constant name None = tt
-named-fit constant name (Some (entry.Signal i shape)) = signal_at-fit (sized_as shape.width shape.signed) constant (node.Signal i) (shape.some_bits, λ _ _. tt)
-named-fit constant name (Some (entry.Param w)) = (w.some_bits, λ _ _. (record { some_bits = w.some_bits; at_most_64 = w.at_most_64; fits = w.fits }, refl))
+-- what a name stands for, where that is right
+some_meaning : (m : Option Meaning) → ((x : Meaning) → m ≡ Some x → IsMeaning x) → IfSome m IsMeaning
+some_meaning None right = tt
+some_meaning (Some x) right = right x refl
 
-bit_of-fit : (constant : Bool) (i : ℕ) (shape : SignalShape) (index : Typed) → IsFit index → IsFitFound one_bit (bit_of constant i shape index)
+named-fit : (constant : Bool) (name : Text) (m : Option Meaning) → IfSome m IsMeaning → IsFitSized (named constant name m)
+named-fit constant name None h = tt
+named-fit constant name (Some (Signal i extent)) h = signal_at-fit (sized_as extent.width extent.signed) constant (node.Signal i) (h.some_bits, λ _ _. tt)
+named-fit constant name (Some (Param w)) h = (h.some_bits, λ _ _. (h, refl))
+named-fit constant name (Some (Later ranged)) h = tt
+
+bit_of-fit : (constant : Bool) (i : ℕ) (shape : Extent) (index : Typed) → IsFit index → IsFitFound one_bit (bit_of constant i shape index)
 bit_of-fit constant i shape index h =
     either (IsFitFound one_bit) (not shape.ranged) (Own BadSelect) _ tt
     (either (IsFitFound one_bit) (names_signal index) _ _
@@ -51,11 +54,12 @@ bit_of-fit constant i shape index h =
     (either (IsFitFound one_bit) (in_range shape (constant_number index)) _ (Own BadSelect)
     (signal_at-fit one_bit constant _ (omega arith, λ _ _. refl)) tt))
 
-bit_found-fit : (constant : Bool) (name : Text) (e : Option Entry) (index : Answer) → IfOk index IsFit → IsFitFound one_bit (bit_found constant name e index)
+bit_found-fit : (constant : Bool) (name : Text) (e : Option Meaning) (index : Answer) → IfOk index IsFit → IsFitFound one_bit (bit_found constant name e index)
 bit_found-fit constant name e (Err fault) h = tt
 bit_found-fit constant name None (Ok index) h = tt
-bit_found-fit constant name (Some (entry.Param w)) (Ok index) h = tt
-bit_found-fit constant name (Some (entry.Signal i shape)) (Ok index) h = bit_of-fit constant i shape index h
+bit_found-fit constant name (Some (Param w)) (Ok index) h = tt
+bit_found-fit constant name (Some (Signal i shape)) (Ok index) h = bit_of-fit constant i shape index h
+bit_found-fit constant name (Some (Later ranged)) (Ok index) h = tt
 
 -- a part-select whose ends have numbers: where it is good, its width is that of its shape
 ends-fit : (constant : Bool) (i place distance : ℕ) (scalar above_range below_range ordered : Bool)
@@ -68,18 +72,19 @@ ends-fit constant i place distance false false false false = tt
 ends-fit constant i place distance false false false true =
     signal_at-fit (sized_as (suc distance) false) constant (node.Slice i place (suc distance)) (omega arith, λ _ _. refl)
 
-part_of-fit : (constant : Bool) (i : ℕ) (shape : SignalShape) (high low : Option ℤ) → IsFitFound (part_shape high low) (part_of constant i shape high low)
+part_of-fit : (constant : Bool) (i : ℕ) (shape : Extent) (high low : Option ℤ) → IsFitFound (part_shape high low) (part_of constant i shape high low)
 part_of-fit constant i shape (Some high) (Some low) =
     ends-fit constant i (place_in shape low) (unsigned_abs (high -ℤ low)) (not shape.ranged) (leaves_range shape (Some high)) (leaves_range shape (Some low)) (int_le low high)
 part_of-fit constant i shape (Some high) None = either (IsFitFound (sized_as 0 true)) _ (Own BadSelect) (Own NotConstant) tt tt
 part_of-fit constant i shape None low = either (IsFitFound (sized_as 0 true)) _ (Own BadSelect) (Own NotConstant) tt tt
 
-part-fit : (constant : Bool) (name : Text) (e : Option Entry) (high low : Answer) → IsFitSized (part_sized constant name e high low)
+part-fit : (constant : Bool) (name : Text) (e : Option Meaning) (high low : Answer) → IsFitSized (part_sized constant name e high low)
 part-fit constant name e (Err fault) low = tt
 part-fit constant name e (Ok high) (Err fault) = tt
 part-fit constant name None (Ok high) (Ok low) = tt
-part-fit constant name (Some (entry.Param w)) (Ok high) (Ok low) = tt
-part-fit constant name (Some (entry.Signal i shape)) (Ok high) (Ok low) = part_of-fit constant i shape (number_of_part (Ok high)) (number_of_part (Ok low))
+part-fit constant name (Some (Param w)) (Ok high) (Ok low) = tt
+part-fit constant name (Some (Later ranged)) (Ok high) (Ok low) = tt
+part-fit constant name (Some (Signal i shape)) (Ok high) (Ok low) = part_of-fit constant i shape (number_of_part (Ok high)) (number_of_part (Ok low))
 
 -- what stands above one part, and above two
 above-fit : (shape : Shape) (P : Typed → Type 0) (a : Answer) (make : Typed → Node) → IfOk a P → ((x : Typed) → P x → IsFitFound shape (Good (make x))) → IsFitFound shape (above a make)
@@ -173,23 +178,23 @@ repeat-fit count parts h = go count parts.list h
     go (Ok counted) (Ok xs) k = repeat_found-fit (number_of_part (Ok counted)) parts.width xs k
 
 mutual
-  pub sized-fit : (constant : Bool) (names : Names) (e : Tree) → IsFitSized (sized constant names e)
-  sized-fit constant names (tree.Number n) = number-fit n
-  sized-fit constant names (tree.Name n) = named-fit constant n (names n)
-  sized-fit constant names (tree.Bit n i) = bit_found-fit constant n (names n) _ (by_itself-is_fit _ (sized-fit constant names i))
-  sized-fit constant names (tree.Part n h l) = part-fit constant n (names n) _ _
-  sized-fit constant names (tree.Paren e) = sized-fit constant names e
-  sized-fit constant names (tree.Unary op e) = unary-fit op _ (sized-fit constant names e)
-  sized-fit constant names (tree.Binary op a b) = binary-fit (kind_of op) op _ _ refl (sized-fit constant names a) (sized-fit constant names b)
-  sized-fit constant names (tree.Choose c a b) = (by_itself-is_fit _ (sized-fit constant names c), sized-fit constant names a, sized-fit constant names b)
-  sized-fit constant names (tree.Join es) = join-fit _ (sized_parts-fit constant names es)
-  sized-fit constant names (tree.Repeat n es) = repeat-fit _ _ (sized_parts-fit constant names es)
-  sized-fit constant names (tree.Signed e) = cast-fit true _ (sized-fit constant names e)
-  sized-fit constant names (tree.Unsigned e) = cast-fit false _ (sized-fit constant names e)
+  pub sized-fit : (constant : Bool) (names : Names) (right : AreMeanings names) (e : Tree) → IsFitSized (sized constant names e)
+  sized-fit constant names right (tree.Number n) = number-fit n
+  sized-fit constant names right (tree.Name n) = named-fit constant n (names n) (some_meaning (names n) (right n))
+  sized-fit constant names right (tree.Bit n i) = bit_found-fit constant n (names n) _ (by_itself-is_fit _ (sized-fit constant names right i))
+  sized-fit constant names right (tree.Part n h l) = part-fit constant n (names n) _ _
+  sized-fit constant names right (tree.Paren e) = sized-fit constant names right e
+  sized-fit constant names right (tree.Unary op e) = unary-fit op _ (sized-fit constant names right e)
+  sized-fit constant names right (tree.Binary op a b) = binary-fit (kind_of op) op _ _ refl (sized-fit constant names right a) (sized-fit constant names right b)
+  sized-fit constant names right (tree.Choose c a b) = (by_itself-is_fit _ (sized-fit constant names right c), sized-fit constant names right a, sized-fit constant names right b)
+  sized-fit constant names right (tree.Join es) = join-fit _ (sized_parts-fit constant names right es)
+  sized-fit constant names right (tree.Repeat n es) = repeat-fit _ _ (sized_parts-fit constant names right es)
+  sized-fit constant names right (tree.Signed e) = cast-fit true _ (sized-fit constant names right e)
+  sized-fit constant names right (tree.Unsigned e) = cast-fit false _ (sized-fit constant names right e)
 
-  pub sized_parts-fit : (constant : Bool) (names : Names) (es : Trees) → FitParts (sized_parts constant names es)
-  sized_parts-fit constant names tree.end = record { sum = refl; fit = tt }
-  sized_parts-fit constant names (tree.more x xs) = with_part-fit _ _ (sized-fit constant names x) (sized_parts-fit constant names xs)
+  pub sized_parts-fit : (constant : Bool) (names : Names) (right : AreMeanings names) (es : Trees) → FitParts (sized_parts constant names es)
+  sized_parts-fit constant names right tree.end = record { sum = refl; fit = tt }
+  sized_parts-fit constant names right (tree.more x xs) = with_part-fit _ _ (sized-fit constant names right x) (sized_parts-fit constant names right xs)
 
 -- cut widths fit as well
 pub cut-fit : (s : Sized) → IsFitSized s → IsFitSized (cut s)

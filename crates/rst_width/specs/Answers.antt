@@ -6,19 +6,23 @@ use Rattle.rst_width.specs.declared.typed_expr.Shape.{Shape}
 use Rattle.rst_width.specs.declared.typed_expr.WidthFault.{WidthFault}
 use Rattle.rst_width.specs.declared.typed_expr.WidthFault.TheVariants as fault
 use Rattle.rst_width.specs.Scopes.{Names}
-use Rattle.rst_width.specs.Sized.{Answer, Sized, own, in_context, ◌>>=◌}
+use Rattle.rst_width.specs.Sized.{Answer, own, in_context, ◌>>=◌}
 use Rattle.rst_width.specs.Sizing.{sized}
 use Rattle.rst_width.specs.Typed.{Typed}
 use Rattle.rst_width.specs.Values.{Valuation, value, constant_word}
 
--- The context of an expression that works at the larger of its own width and this one, with its own sign.
-abbrev pub widened : Sized → ℕ → Shape
-widened e width = record { width = max (own e).width width; signed = (own e).signed }
+-- The width and sign that an expression has by itself, whatever faults it has.
+abbrev pub own_shape : Names → Tree → Shape
+own_shape names e = own (sized false names e)
 
--- The context of an expression that works at the larger of its own width and that of a context from outside, with the sign of that
--- context.
-abbrev pub placed : Sized → Shape → Shape
-placed e context = record { width = max (own e).width context.width; signed = context.signed }
+-- What an expression of this width and sign is brought to in a context of this width, 0 for none: the larger width, with its own
+-- sign.
+abbrev pub widened_shape : Shape → ℕ → Shape
+widened_shape own width = record { width = max own.width width; signed = own.signed }
+
+-- And in a context that has a width and a sign: the larger width, with the sign of the context.
+abbrev pub placed_shape : Shape → Shape → Shape
+placed_shape own context = record { width = max own.width context.width; signed = context.signed }
 
 -- The width and sign of an expression by itself. Its divisors are not looked at, where a wider context could change them.
 abbrev pub shape_answer : Names → Tree → Result Shape WidthFault
@@ -26,16 +30,16 @@ shape_answer names e = let s = sized false names e in in_context false s (own s)
 
 -- The typed expression in a context of this width, 0 for none.
 abbrev pub typed_answer : Names → Tree → ℕ → Answer
-typed_answer names e width = let s = sized false names e in in_context true s (widened s width)
+typed_answer names e width = let s = sized false names e in in_context true s (widened_shape (own s) width)
 
 -- The typed expression in a context with this width and sign.
 abbrev pub placed_answer : Names → Tree → Shape → Answer
-placed_answer names e context = let s = sized false names e in in_context true s (placed s context)
+placed_answer names e context = let s = sized false names e in in_context true s (placed_shape (own s) context)
 
 -- The word of a constant expression in a context of this width, 0 for none.
 abbrev pub constant_answer : Names → Tree → ℕ → Result PlainWord WidthFault
 constant_answer names e width =
-    let s = sized true names e in in_context true s (widened s width) >>= λ t. Ok (constant_word t)
+    let s = sized true names e in in_context true s (widened_shape (own s) width) >>= λ t. Ok (constant_word t)
 
 -- What a call answers, seen by `view`, is this answer, unless memory ran out.
 abbrev pub Gives : {X Y : Type 0} → (X → Y) → Result X WidthFault → Result Y WidthFault → Type 0

@@ -1,15 +1,14 @@
 -- What a typed expression reads lies inside its signals.
 use Rattle.std.specs.Prelude.{◌≡◌, ℕ, ◌+◌, ◌^◌, ◌≤◌, Some}
 use Rattle.rst_tree.specs.Trees.{Text}
-use Rattle.rst_width.specs.declared.scope.SignalShape.{SignalShape}
-use Rattle.rst_width.specs.declared.scope.Entry.TheVariants as entry
 use Rattle.rst_width.specs.declared.typed_expr.Shape.{Shape}
-use Rattle.rst_width.specs.Scopes.{Names}
+use Rattle.rst_width.specs.Scopes.{Names, Extent}
+use Rattle.rst_width.specs.Scopes as scope
 use Rattle.rst_width.specs.Typed.{Typed, Node, TypedList, typed, Word, Signal, Slice, Pick, Unary, Binary, Choose, Join, Repeat, Extend, Sign, end, more, shape_of}
 
 -- The signals of a scope have these widths, by their numbers.
 abbrev pub HaveWidths : (ℕ → ℕ) → Names → Type 0
-HaveWidths widths names = (name : Text) (i : ℕ) (shape : SignalShape) → names name ≡ Some (entry.Signal i shape) → widths i ≡ shape.width
+HaveWidths widths names = (name : Text) (i : ℕ) (extent : Extent) → names name ≡ Some (scope.Signal i extent) → widths i ≡ extent.width
 
 abbrev mutual
   -- A whole signal is read at its width, a slice lies inside it, and so does every bit that an index can name.

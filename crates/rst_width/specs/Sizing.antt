@@ -6,15 +6,12 @@ use Rattle.rst_word.specs.declared.ops.UnaryOp.TheVariants as unary
 use Rattle.rst_word.specs.declared.ops.BinaryOp.{BinaryOp}
 use Rattle.rst_word.specs.declared.ops.BinaryOp.TheVariants as binary
 use Rattle.rst_word.specs.Words.{PlainWord}
-use Rattle.rst_word.specs.Plain.{plain_word}
 use Rattle.rst_tree.specs.Trees.{Text, Tree, Trees}
 use Rattle.rst_tree.specs.Trees as tree
-use Rattle.rst_width.specs.declared.scope.Entry.{Entry}
-use Rattle.rst_width.specs.declared.scope.Entry.TheVariants as entry
 use Rattle.rst_width.specs.declared.typed_expr.Shape.{Shape}
 use Rattle.rst_width.specs.declared.typed_expr.WidthFault.{WidthFault}
 use Rattle.rst_width.specs.declared.typed_expr.WidthFault.TheVariants.{NoName, TooWide, ZeroWidth, NotConstant}
-use Rattle.rst_width.specs.Scopes.{Names}
+use Rattle.rst_width.specs.Scopes.{Names, Meaning, Signal, Param, Later}
 use Rattle.rst_width.specs.Typed.{Typed, Node, TypedList, end, more, sized_as}
 use Rattle.rst_width.specs.Typed as node
 use Rattle.rst_width.specs.Sized.{Answer, Found, Earlier, Own, Good, Sized, Leaf, Unary, Binary, Shift, Choose, own, larger, in_context, by_itself, ◌>>=◌}
@@ -31,11 +28,12 @@ one_bit = sized_as 1 false
 abbrev pub number_sized : Literal → Sized
 number_sized n = Leaf (sized_as n.width n.signed) (Good (node.Word (word_of n)))
 
--- A signal or a parameter has the width and sign of its declaration.
-abbrev pub named : Bool → Text → Option Entry → Sized
+-- A signal or a parameter has the width and sign of its declaration. A name that has none yet is no constant.
+abbrev pub named : Bool → Text → Option Meaning → Sized
 named constant name None = Leaf open_shape (Earlier (NoName name))
-named constant name (Some (entry.Signal i shape)) = Leaf (sized_as shape.width shape.signed) (signal_at constant (node.Signal i))
-named constant name (Some (entry.Param w)) = Leaf (sized_as w.width w.signed) (Good (node.Word (plain_word w)))
+named constant name (Some (Signal i extent)) = Leaf (sized_as extent.width extent.signed) (signal_at constant (node.Signal i))
+named constant name (Some (Param w)) = Leaf (sized_as w.width w.signed) (Good (node.Word w))
+named constant name (Some (Later ranged)) = Leaf open_shape (Own NotConstant)
 
 -- what stands above parts that stand by themselves
 abbrev pub above : Answer → (Typed → Node) → Found
@@ -78,7 +76,15 @@ kind_of binary.Eq = Comparing
 kind_of binary.Ne = Comparing
 kind_of binary.LogicAnd = Deciding
 kind_of binary.LogicOr = Deciding
-kind_of _ = Arithmetic
+kind_of binary.Mul = Arithmetic
+kind_of binary.Div = Arithmetic
+kind_of binary.Rem = Arithmetic
+kind_of binary.Add = Arithmetic
+kind_of binary.Sub = Arithmetic
+kind_of binary.And = Arithmetic
+kind_of binary.Xor = Arithmetic
+kind_of binary.Xnor = Arithmetic
+kind_of binary.Or = Arithmetic
 
 -- one bit above two operands
 abbrev pub decided : BinaryOp → Answer → Answer → Sized
@@ -143,9 +149,9 @@ repeat_sized count parts = Leaf (repeat_shape (number_of_part count) parts.width
 abbrev pub cast_sized : Bool → Sized → Sized
 cast_sized signed a = Leaf (sized_as (own a).width signed) (above (by_itself a) node.Sign)
 
-abbrev pub part_sized : Bool → Text → Option Entry → Answer → Answer → Sized
-part_sized constant name entry high low =
-    Leaf (part_shape (number_of_part high) (number_of_part low)) (part_found constant name entry high low)
+abbrev pub part_sized : Bool → Text → Option Meaning → Answer → Answer → Sized
+part_sized constant name meaning high low =
+    Leaf (part_shape (number_of_part high) (number_of_part low)) (part_found constant name meaning high low)
 
 abbrev mutual
   -- An expression, sized. Where `constant` is true, a signal is NotConstant.

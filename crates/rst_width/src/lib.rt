@@ -7,19 +7,21 @@
 
 mod calls;
 pub mod laws;
+mod names;
 mod parts;
 mod scope;
 mod selects;
 mod sized;
 mod sizing;
+mod targets;
 mod typed_expr;
 mod typing;
 mod values;
 
-pub use calls::{constant, size_and_sign, typed, typed_in};
+pub use calls::{
+    constant, constant_among, own_shape, size_and_sign, typed, typed_in, typed_target,
+};
+pub use names::{Unshaped, UnshapedNames};
 pub use scope::{Entry, Scope, SignalShape};
 pub use typed_expr::{Shape, TypedExpr, TypedNode, WidthFault};
 pub use values::{constant_word, names_signal};
-
-#[cfg(test)]
-mod tests;

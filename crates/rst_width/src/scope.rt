@@ -38,11 +38,11 @@ pub struct Scope {
 
 impl Scope {
     ghost use Rattle.std.specs.Prelude.{◌≡◌};
-    ghost use Rattle.rst_width.specs.Scopes.{names_of};
+    ghost use Rattle.rst_width.specs.Scopes.{entry_of};
 
     /// What the name stands for, if it is declared.
     pub fn entry(&self, name: &Name) -> Option<Entry>
-        ensures { result ≡ names_of self.now name.now }
+        ensures { result ≡ entry_of self.now name.now }
     {
         self.entries.get(name).copied()
     }

@@ -1,13 +1,16 @@
 // Bit selects and part-selects.
 
-ghost use Rattle.std.specs.Prelude.{◌≡◌, ◌+◌, ◌≤◌, ◌<◌, ◌^◌, IfOk, IfSome, IsTrue, pos, neg_ℤ, ◌≤ℤ◌, ◌<ℤ◌, ◌-ℤ◌, unsigned_abs, min, suc, Ok, false};
+ghost use Rattle.std.specs.Prelude.{◌≡◌, ◌+◌, ◌≤◌, ◌<◌, ◌^◌, IfOk, IfSome, IsTrue, pos, neg_ℤ, ◌≤ℤ◌, ◌<ℤ◌, ◌-ℤ◌, unsigned_abs, min, suc, Ok, cond};
+ghost use Rattle.rst_width.specs.declared.typed_expr.WidthFault.TheVariants.{NotConstant, BadSelect};
 ghost use Rattle.rst_width.specs.Typed.{plain_typed, plain_node, names_signal};
-ghost use Rattle.rst_width.specs.Plain.{plain_answer, plain_found};
-ghost use Rattle.rst_width.specs.Selects.{signal_at, in_range, place_in, stays_inside, bit_of, bit_found, number_of_part, part_shape, part_of, part_found, leaves_range};
+ghost use Rattle.rst_width.specs.Plain.{plain_answer, plain_found, plain_meaning};
+ghost use Rattle.rst_width.specs.Scopes.{extent_of};
+ghost use Rattle.rst_width.specs.Selects.{signal_at, in_range, place_in, stays_inside, bit_of, bit_found, number_of_part, part_shape, part_of, part_found, leaves_range, ascends, later_part};
 ghost use Rattle.rst_width.specs.Cut.{cut_shape};
 ghost use Rattle.rst_width.specs.Fit.{IsFit};
 
-use crate::scope::{Entry, SignalShape};
+use crate::names::{Meaning, Unshaped};
+use crate::scope::SignalShape;
 use crate::sized::{Answer, Found};
 use crate::typed_expr::{Shape, TypedExpr, TypedNode, WidthFault};
 use crate::values::{constant_word, names_signal};
@@ -27,7 +30,7 @@ pub fn signal_at(constant: bool, node: TypedNode) -> Found
 
 // Whether a bit of this number is one of the vector's.
 fn in_range(shape: SignalShape, place: i128) -> bool
-    ensures { result ≡ in_range shape place }
+    ensures { result ≡ in_range (extent_of shape) place }
 {
     let low = i128::from(shape.low);
     low <= place && place <= low + i128::from(shape.width) - 1
@@ -35,8 +38,8 @@ fn in_range(shape: SignalShape, place: i128) -> bool
 
 // How far a bit of the vector is above the lowest one.
 fn place_in(shape: SignalShape, place: i128) -> u8
-    requires { IsTrue (in_range shape place) }
-    ensures exact { result ≡ place_in shape place }
+    requires { IsTrue (in_range (extent_of shape) place) }
+    ensures exact { result ≡ place_in (extent_of shape) place }
     ensures inside { result < shape.width }
 {
     (place - i128::from(shape.low)) as u8
@@ -45,7 +48,7 @@ fn place_in(shape: SignalShape, place: i128) -> u8
 // Whether no value of a variable index leaves the vector.
 fn stays_inside(shape: SignalShape, index: Shape) -> bool
     requires { index.width ≤ 64 }
-    ensures { result ≡ stays_inside shape index }
+    ensures { result ≡ stays_inside (extent_of shape) index }
 {
     !index.signed && shape.low == 0 && 1u128 << index.width <= u128::from(shape.width)
 }
@@ -59,7 +62,7 @@ fn bit_of(
     index: TypedExpr,
 ) -> Result<Found, AllocError>
     requires { IsFit (plain_typed index) }
-    ensures { IfOk result (λ found. plain_found found ≡ bit_of constant signal shape (plain_typed index)) }
+    ensures { IfOk result (λ found. plain_found found ≡ bit_of constant signal (extent_of shape) (plain_typed index)) }
 {
     if !shape.ranged {
         drop(index);
@@ -88,7 +91,7 @@ fn variable_bit(
     requires fit { IsFit (plain_typed index) }
     requires vector { IsTrue shape.ranged }
     requires variable { IsTrue (names_signal (plain_typed index)) }
-    ensures { IfOk result (λ found. plain_found found ≡ bit_of constant signal shape (plain_typed index)) }
+    ensures { IfOk result (λ found. plain_found found ≡ bit_of constant signal (extent_of shape) (plain_typed index)) }
 {
     let index_shape = Shape {
         width: index.width,
@@ -101,31 +104,48 @@ fn variable_bit(
     Ok(signal_at(constant, node))
 }
 
+// What is wrong with a bit of a name that has no width and sign yet.
+fn later_bit(declared: Unshaped) -> WidthFault
+    ensures { result ≡ cond declared.ranged NotConstant BadSelect }
+{
+    if declared.ranged {
+        WidthFault::NotConstant
+    } else {
+        WidthFault::BadSelect
+    }
+}
+
 // What stands at a bit select, whose index comes first.
 pub fn bit_found(
     alloc: Global,
     constant: bool,
     name: &Name,
-    entry: Option<Entry>,
+    meaning: Option<Meaning>,
     index: Answer,
 ) -> Result<Found, NoMemory>
     requires { IfOk index (λ e. IsFit (plain_typed e)) }
-    ensures { IfOk result (λ found. plain_found found ≡ bit_found constant name.now entry (plain_answer index)) }
+    ensures { IfOk result (λ found. plain_found found ≡ bit_found constant name.now (plain_meaning meaning) (plain_answer index)) }
 {
     let index = match index {
         Err(fault) => return Ok(Found::Earlier(fault)),
         Ok(index) => index,
     };
-    match entry {
+    match meaning {
         None => {
             drop(index);
             Ok(Found::Earlier(WidthFault::NoName(Name::new(alloc, name.as_slice())?)))
         }
-        Some(Entry::Param(_)) => {
+        Some(Meaning::Param(_)) => {
             drop(index);
             Ok(Found::Own(WidthFault::BadSelect))
         }
-        Some(Entry::Signal(signal, shape)) => { Ok(bit_of(alloc, constant, signal, shape, index)?) }
+        Some(Meaning::Signal(signal, shape)) => {
+            Ok(bit_of(alloc, constant, signal, shape, index)?)
+        }
+        Some(Meaning::Later(declared)) => {
+            drop(index);
+            Ok(Found::Own(later_bit(declared)))
+        }
     }
 }
 
@@ -186,7 +206,7 @@ pub fn part_shape(high: Option<i128>, low: Option<i128>) -> Shape
 
 // Whether an end has a number that is no bit of the vector.
 fn leaves_range(shape: SignalShape, end: Option<i128>) -> bool
-    ensures { result ≡ leaves_range shape end }
+    ensures { result ≡ leaves_range (extent_of shape) end }
 {
     match end {
         Some(place) => !in_range(shape, place),
@@ -202,7 +222,7 @@ fn part_of(
     high: Option<i128>,
     low: Option<i128>,
 ) -> Found
-    ensures { plain_found result ≡ part_of constant signal shape high low }
+    ensures { plain_found result ≡ part_of constant signal (extent_of shape) high low }
 {
     if !shape.ranged || leaves_range(shape, high) || leaves_range(shape, low) {
         return Found::Own(WidthFault::BadSelect);
@@ -218,18 +238,39 @@ fn part_of(
     signal_at(constant, TypedNode::Slice(signal, from, width))
 }
 
+// Whether the ends have numbers, and the first one is lower.
+fn ascends(high: Option<i128>, low: Option<i128>) -> bool
+    ensures { result ≡ ascends high low }
+{
+    match (high, low) {
+        (Some(high), Some(low)) => high < low,
+        _ => false,
+    }
+}
+
+// What is wrong with a part of a name that has no width and sign yet.
+fn later_part(declared: Unshaped, high: Option<i128>, low: Option<i128>) -> WidthFault
+    ensures { result ≡ later_part declared.ranged high low }
+{
+    if !declared.ranged || ascends(high, low) {
+        WidthFault::BadSelect
+    } else {
+        WidthFault::NotConstant
+    }
+}
+
 // What stands at a part-select, whose ends come first.
 pub fn part_found(
     alloc: Global,
     constant: bool,
     name: &Name,
-    entry: Option<Entry>,
+    meaning: Option<Meaning>,
     high: Answer,
     low: Answer,
 ) -> Result<Found, NoMemory>
     requires high_fits { IfOk high (λ e. IsFit (plain_typed e)) }
     requires low_fits { IfOk low (λ e. IsFit (plain_typed e)) }
-    ensures { IfOk result (λ found. plain_found found ≡ part_found constant name.now entry (plain_answer high) (plain_answer low)) }
+    ensures { IfOk result (λ found. plain_found found ≡ part_found constant name.now (plain_meaning meaning) (plain_answer high) (plain_answer low)) }
 {
     let high = match high {
         Err(fault) => {
@@ -247,11 +288,12 @@ pub fn part_found(
     };
     let ends = (number_of(&high), number_of(&low));
     drop((high, low));
-    match entry {
+    match meaning {
         None => Ok(Found::Earlier(WidthFault::NoName(Name::new(alloc, name.as_slice())?))),
-        Some(Entry::Param(_)) => Ok(Found::Own(WidthFault::BadSelect)),
-        Some(Entry::Signal(signal, shape)) => {
+        Some(Meaning::Param(_)) => Ok(Found::Own(WidthFault::BadSelect)),
+        Some(Meaning::Signal(signal, shape)) => {
             Ok(part_of(constant, signal, shape, ends.0, ends.1))
         }
+        Some(Meaning::Later(declared)) => { Ok(Found::Own(later_part(declared, ends.0, ends.1))) }
     }
 }

@@ -4,15 +4,17 @@ ghost use Rattle.std.specs.Prelude.{◌≡◌, ◌≤◌, IfOk};
 ghost use Rattle.rst_tree.specs.Trees.{plain};
 ghost use Rattle.rst_tree.specs.Trees as tree;
 ghost use Rattle.rst_width.specs.Typed.{plain_typed, plain_node};
-ghost use Rattle.rst_width.specs.Plain.{plain_answer, plain_sized, plain_parts};
-ghost use Rattle.rst_width.specs.Scopes.{names_of};
+ghost use Rattle.rst_width.specs.Plain.{plain_answer, plain_meaning, plain_sized, plain_parts};
+ghost use Rattle.rst_width.specs.Scopes.{names_with};
 ghost use Rattle.rst_width.specs.Sized.{by_itself, Shift};
 ghost use Rattle.rst_width.specs.Sizing.{one_bit, Comparing, Moving, Deciding, decided, number_sized, named, part_sized, unary_sized, binary_sized, kind_of, cast_sized, sized, sized_parts};
+ghost use Rattle.rst_width.specs.Selects.{open_shape};
 ghost use Rattle.rst_width.specs.Cut.{cut, cut_parts, HasWidth, IsFitSized};
 ghost use Rattle.rst_width.specs.Fit.{IsFit};
 
+use crate::names::{Meaning, UnshapedNames, stands_for};
 use crate::parts::{Parts, join_sized, repeat_sized, with_next};
-use crate::scope::{Entry, Scope};
+use crate::scope::Scope;
 use crate::selects::{bit_found, number_of_part, part_found, part_shape, signal_at};
 use crate::sized::{Answer, Found, SizedExpr};
 use crate::typed_expr::{Shape, TypedExpr, TypedNode, WidthFault};
@@ -24,12 +26,22 @@ use rst_word::{BinaryOp, UnaryOp, Word};
 use std::alloc::{AllocError, Global};
 
 // One unsigned bit.
-fn one_bit() -> Shape
+pub fn one_bit() -> Shape
     ensures { result ≡ one_bit }
 {
     Shape {
         width: 1,
         signed: false,
+    }
+}
+
+// What a fault leaves open.
+fn open_shape() -> Shape
+    ensures { result ≡ open_shape }
+{
+    Shape {
+        width: 0,
+        signed: true,
     }
 }
 
@@ -46,25 +58,21 @@ fn number_sized(number: Literal) -> SizedExpr
 }
 
 // A signal or a parameter has the width and sign of its declaration.
-fn named(
+pub fn named(
     alloc: Global,
     constant: bool,
     name: &Name,
-    entry: Option<Entry>,
+    meaning: Option<Meaning>,
 ) -> Result<SizedExpr, NoMemory>
-    ensures { IfOk result (λ s. plain_sized s ≡ named constant name.now entry) }
+    ensures { IfOk result (λ s. plain_sized s ≡ named constant name.now (plain_meaning meaning)) }
 {
-    match entry {
+    match meaning {
         None => {
-            let shape = Shape {
-                width: 0,
-                signed: true,
-            };
             let name = Name::new(alloc, name.as_slice())?;
             let found = Found::Earlier(WidthFault::NoName(name));
-            Ok(SizedExpr::Leaf(shape, found))
+            Ok(SizedExpr::Leaf(open_shape(), found))
         }
-        Some(Entry::Signal(signal, declared)) => {
+        Some(Meaning::Signal(signal, declared)) => {
             let shape = Shape {
                 width: declared.width,
                 signed: declared.signed,
@@ -72,31 +80,34 @@ fn named(
             let found = signal_at(constant, TypedNode::Signal(signal));
             Ok(SizedExpr::Leaf(shape, found))
         }
-        Some(Entry::Param(word)) => {
+        Some(Meaning::Param(word)) => {
             let shape = Shape {
                 width: word.width,
                 signed: word.signed,
             };
             Ok(SizedExpr::Leaf(shape, Found::Good(TypedNode::Word(word))))
         }
+        Some(Meaning::Later(_)) => {
+            Ok(SizedExpr::Leaf(open_shape(), Found::Own(WidthFault::NotConstant)))
+        }
     }
 }
 
 // A part-select.
-fn part_sized(
+pub fn part_sized(
     alloc: Global,
     constant: bool,
     name: &Name,
-    entry: Option<Entry>,
+    meaning: Option<Meaning>,
     high: Answer,
     low: Answer,
 ) -> Result<SizedExpr, NoMemory>
     requires high_fits { IfOk high (λ e. IsFit (plain_typed e)) }
     requires low_fits { IfOk low (λ e. IsFit (plain_typed e)) }
-    ensures { IfOk result (λ s. plain_sized s ≡ cut (part_sized constant name.now entry (plain_answer high) (plain_answer low))) }
+    ensures { IfOk result (λ s. plain_sized s ≡ cut (part_sized constant name.now (plain_meaning meaning) (plain_answer high) (plain_answer low))) }
 {
     let shape = part_shape(number_of_part(&high), number_of_part(&low));
-    let found = part_found(alloc, constant, name, entry, high, low)?;
+    let found = part_found(alloc, constant, name, meaning, high, low)?;
     Ok(SizedExpr::Leaf(shape, found))
 }
 
@@ -285,11 +296,12 @@ pub fn sized(
     constant: bool,
     expr: &Expr,
     scope: &Scope,
+    unshaped: &UnshapedNames,
 ) -> Result<SizedExpr, NoMemory>
-    ensures exact { IfOk result (λ s. plain_sized s ≡ cut (sized constant (names_of scope.now) (plain expr.now))) }
+    ensures exact { IfOk result (λ s. plain_sized s ≡ cut (sized constant (names_with scope.now unshaped.now) (plain expr.now))) }
     ensures fit { IfOk result (λ s. IsFitSized (plain_sized s)) }
 {
-    sized_node(alloc, constant, expr, scope)
+    sized_node(alloc, constant, expr, scope, unshaped)
 }
 
 #[cycle(sizing)]
@@ -299,35 +311,49 @@ fn sized_node(
     constant: bool,
     expr: &Expr,
     scope: &Scope,
+    unshaped: &UnshapedNames,
 ) -> Result<SizedExpr, NoMemory>
-    ensures { IfOk result (λ s. plain_sized s ≡ cut (sized constant (names_of scope.now) (plain expr.now))) }
+    ensures { IfOk result (λ s. plain_sized s ≡ cut (sized constant (names_with scope.now unshaped.now) (plain expr.now))) }
 {
     match expr {
         Expr::Number(number) => Ok(number_sized(*number)),
-        Expr::Name(name) => named(alloc, constant, name, scope.entry(name)),
+        Expr::Name(name) => named(alloc, constant, name, stands_for(scope, unshaped, name)),
         Expr::Bit(name, index) => {
-            let index = sized_by_itself(alloc, constant, index, scope)?;
-            let found = bit_found(alloc, constant, name, scope.entry(name), index)?;
+            let index = sized_by_itself(alloc, constant, index, scope, unshaped)?;
+            let found = bit_found(
+                alloc,
+                constant,
+                name,
+                stands_for(scope, unshaped, name),
+                index,
+            )?;
             Ok(SizedExpr::Leaf(one_bit(), found))
         }
         Expr::Part(name, high, low) => {
-            let high = sized_by_itself(alloc, constant, high, scope)?;
-            match sized_by_itself(alloc, constant, low, scope) {
-                Ok(low) => part_sized(alloc, constant, name, scope.entry(name), high, low),
+            let high = sized_by_itself(alloc, constant, high, scope, unshaped)?;
+            match sized_by_itself(alloc, constant, low, scope, unshaped) {
+                Ok(low) => part_sized(
+                    alloc,
+                    constant,
+                    name,
+                    stands_for(scope, unshaped, name),
+                    high,
+                    low,
+                ),
                 Err(no_memory) => {
                     drop(high);
                     Err(no_memory)
                 }
             }
         }
-        Expr::Paren(inner) => sized_node(alloc, constant, inner, scope),
+        Expr::Paren(inner) => sized_node(alloc, constant, inner, scope, unshaped),
         Expr::Unary(op, operand) => {
-            let operand = sized(alloc, constant, operand, scope)?;
+            let operand = sized(alloc, constant, operand, scope, unshaped)?;
             Ok(unary_sized(alloc, *op, operand)?)
         }
         Expr::Binary(op, left, right) => {
-            let left = sized(alloc, constant, left, scope)?;
-            match sized(alloc, constant, right, scope) {
+            let left = sized(alloc, constant, left, scope, unshaped)?;
+            match sized(alloc, constant, right, scope, unshaped) {
                 Ok(right) => Ok(binary_sized(alloc, *op, left, right)?),
                 Err(no_memory) => {
                     drop(left);
@@ -336,15 +362,15 @@ fn sized_node(
             }
         }
         Expr::Choose(test, yes, no) => {
-            let yes = Box::new(alloc, sized_node(alloc, constant, yes, scope)?)?;
-            let no = Box::new(alloc, sized_node(alloc, constant, no, scope)?)?;
-            let test = sized_by_itself(alloc, constant, test, scope)?;
+            let yes = Box::new(alloc, sized_node(alloc, constant, yes, scope, unshaped)?)?;
+            let no = Box::new(alloc, sized_node(alloc, constant, no, scope, unshaped)?)?;
+            let test = sized_by_itself(alloc, constant, test, scope, unshaped)?;
             Ok(SizedExpr::Choose(test, yes, no))
         }
-        Expr::Join(parts) => Ok(join_sized(sized_parts(alloc, constant, parts, scope)?)),
+        Expr::Join(parts) => Ok(join_sized(sized_parts(alloc, constant, parts, scope, unshaped)?)),
         Expr::Repeat(count, parts) => {
-            let count = sized_by_itself(alloc, constant, count, scope)?;
-            match sized_parts(alloc, constant, parts, scope) {
+            let count = sized_by_itself(alloc, constant, count, scope, unshaped)?;
+            match sized_parts(alloc, constant, parts, scope, unshaped) {
                 Ok(parts) => Ok(repeat_sized(count, parts)),
                 Err(no_memory) => {
                     drop(count);
@@ -353,11 +379,11 @@ fn sized_node(
             }
         }
         Expr::Signed(inner) => {
-            let inner = sized(alloc, constant, inner, scope)?;
+            let inner = sized(alloc, constant, inner, scope, unshaped)?;
             Ok(cast_sized(alloc, true, inner)?)
         }
         Expr::Unsigned(inner) => {
-            let inner = sized(alloc, constant, inner, scope)?;
+            let inner = sized(alloc, constant, inner, scope, unshaped)?;
             Ok(cast_sized(alloc, false, inner)?)
         }
     }
@@ -366,16 +392,17 @@ fn sized_node(
 // An expression by itself.
 #[cycle(sizing)]
 #[tactic(auto, using(crate::proofs::SizingCuts::sizing_cuts))]
-fn sized_by_itself(
+pub fn sized_by_itself(
     alloc: Global,
     constant: bool,
     expr: &Expr,
     scope: &Scope,
+    unshaped: &UnshapedNames,
 ) -> Result<Answer, NoMemory>
-    ensures exact { IfOk result (λ answer. plain_answer answer ≡ by_itself (sized constant (names_of scope.now) (plain expr.now))) }
+    ensures exact { IfOk result (λ answer. plain_answer answer ≡ by_itself (sized constant (names_with scope.now unshaped.now) (plain expr.now))) }
     ensures fit { IfOk result (λ answer. IfOk answer (λ e. IsFit (plain_typed e))) }
 {
-    let sized = sized(alloc, constant, expr, scope)?;
+    let sized = sized(alloc, constant, expr, scope, unshaped)?;
     Ok(by_itself(alloc, sized)?)
 }
 
@@ -386,8 +413,9 @@ fn sized_parts(
     constant: bool,
     exprs: &[Expr],
     scope: &Scope,
+    unshaped: &UnshapedNames,
 ) -> Result<Parts, NoMemory>
-    ensures exact { IfOk result (λ p. plain_parts p ≡ cut_parts (sized_parts constant (names_of scope.now) (tree.plain_all exprs.now))) }
+    ensures exact { IfOk result (λ p. plain_parts p ≡ cut_parts (sized_parts constant (names_with scope.now unshaped.now) (tree.plain_all exprs.now))) }
     ensures has_width { IfOk result (λ p. IfOk (plain_parts p).list (HasWidth p.width)) }
 {
     let mut parts = Parts {
@@ -395,7 +423,7 @@ fn sized_parts(
         list: Ok(Vec::new(alloc)),
     };
     for expr in exprs {
-        let next = sized(alloc, constant, expr, scope)?;
+        let next = sized(alloc, constant, expr, scope, unshaped)?;
         parts = with_next(alloc, parts, next)?;
     }
     Ok(parts)

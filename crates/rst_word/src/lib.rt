@@ -2,6 +2,7 @@
 #![tactic(auto)]
 
 mod arithmetic;
+pub mod laws;
 mod operators;
 mod ops;
 #[cfg(test)]

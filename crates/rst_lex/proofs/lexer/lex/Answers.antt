@@ -1,4 +1,4 @@
-use Rattle.std.proofs.Common.{subst, sym, ◌+◌, Err}
+use Rattle.std.proofs.Common.{subst, sym, ◌+◌, ◌<◌, Err, length, IfSome}
 use Rattle.rst_lex.specs.Lexing.{Reads}
 use Rattle.rst_lex.proofs.LexLoop.{Front, piece_says, front_gap, front_token, front_done, front_fault, in_order, kinds_in}
 use Rattle.rst_lex.specs.declared.piece.Piece.TheVariants as pieces
@@ -25,5 +25,8 @@ returns-clause-kinds c = kinds_in c.args.text.now c.loop-at.tokens.items (front_
 
 pub returns-in-Fault-clause-fault : goal.returns-in-Fault-clause-fault
 returns-in-Fault-clause-fault c = λ some.
-    subst (λ f. Reads c.args.text.now (Err f)) (sym c.fault_at.ensures)
+    subst (λ f. Reads c.args.text.now (Err f)) (sym c.fault_at.ensures.value)
     (front_fault c.args.text.now c.loop-at.at c.loop-at.tokens.items c.in-Fault.cause c.loop-at-test.true c.loop-at.invariant (piece_says c.args.text.now c.loop-at.at (pieces.Fault c.in-Fault.cause) c.loop-at-test.true c.in-Fault.ensures))
+
+pub returns-in-Fault-clause-place : goal.returns-in-Fault-clause-place
+returns-in-Fault-clause-place c = subst (λ o. IfSome o (λ at. at < length c.args.text.now)) (sym c.fault_at.ensures.place) c.loop-at-test.true

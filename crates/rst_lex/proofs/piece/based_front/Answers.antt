@@ -1,6 +1,6 @@
 use Rattle.std.proofs.Common.{◌≡◌, ◌+◌, ◌-◌, Ok, take, drop, subst, arith}
 use Rattle.std.specs.Prelude.{nat_lt}
-use Rattle.rst_lex.specs.Literals.{IsBasedAnswer}
+use Rattle.rst_lex.specs.Pieces.{IsBasedAnswer}
 use Rattle.rst_lex.proofs.piece.based_front.Goals as goal
 
 pub returns-in-Ok : goal.returns-in-Ok

@@ -5,7 +5,7 @@ use Rattle.rst_lex.proofs.LexFronts.{Says, says}
 use Rattle.rst_lex.proofs.LexPieces.{front_within, word_piece, system_piece, mark_piece, decimal_piece, based_within, based_piece}
 use Rattle.rst_lex.specs.Numbers.{IsDecimal}
 use Rattle.rst_lex.specs.declared.piece.Piece.TheVariants as pieces
-use Rattle.rst_lex.specs.Lexing.{IsPiece}
+use Rattle.rst_lex.specs.Pieces.{IsPiece}
 use Rattle.rst_lex.proofs.piece.text_piece.Goals as goal
 
 pub returns-in-Gap : goal.returns-in-Gap

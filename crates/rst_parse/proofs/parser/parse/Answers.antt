@@ -6,6 +6,7 @@ use Rattle.rst_parse.specs.Pieces.{pieces}
 use Rattle.rst_parse.specs.Parsing.{ReadsPieces, refused, read}
 use Rattle.rst_parse.proofs.SymbolSteps.{few_tokens, symbol_count}
 use Rattle.rst_parse.proofs.OneAnswer.{one_answer, only_fault}
+use Rattle.rst_parse.proofs.Settled.{answered_place, well_formed}
 use Rattle.rst_parse.proofs.parser.parse.Goals as goal
 
 pub symbols-requires-clause-short : goal.symbols-requires-clause-short
@@ -45,6 +46,27 @@ returns-in_err-modules-clause-only c =
     rw (p.1, p.2) (only_fault c.args.text.now c.args.tokens.now c.in_err-modules.field-0.0 (λ some.
     read c.in_ok-symbols.symbols.items c.in_ok-symbols.ensures.supported c.in_ok-symbols.ensures.symbols
     (subst (λ ss. ReadsPieces 0 (pieces ss) (Err c.in_err-modules.field-0.0)) c.deref.ensures.value (c.in_err-modules.ensures.fault some))))
+
+pub returns-in_err-symbols-clause-place : goal.returns-in_err-symbols-clause-place
+returns-in_err-symbols-clause-place c =
+    let p = err_from_is_err_and c.from_residual.result c.from_residual.ensures.1 in
+    rw (p.1, p.2) (answered_place c.args.text.now c.args.tokens.now c.in_err-symbols.field-0.0 (λ some.
+    let first = c.in_err-symbols.ensures.refused some in
+    refused first.0 first.1 (ap (λ f. Err f) first.2)))
+
+pub returns-in_err-modules-clause-place : goal.returns-in_err-modules-clause-place
+returns-in_err-modules-clause-place c =
+    let p = err_from_is_err_and c.from_residual-in_err-modules.result c.from_residual-in_err-modules.ensures.1 in
+    rw (p.1, p.2) (answered_place c.args.text.now c.args.tokens.now c.in_err-modules.field-0.0 (λ some.
+    read c.in_ok-symbols.symbols.items c.in_ok-symbols.ensures.supported c.in_ok-symbols.ensures.symbols
+    (subst (λ ss. ReadsPieces 0 (pieces ss) (Err c.in_err-modules.field-0.0)) c.deref.ensures.value (c.in_err-modules.ensures.fault some))))
+
+pub returns-clause-formed : goal.returns-clause-formed
+returns-clause-formed c =
+    let few = few_tokens (length c.args.text.now) c.args.tokens.now 0 (in_order c.args.text.now c.args.tokens.now c.requires.read) in
+    well_formed c.args.text.now c.args.tokens.now (map plain_module c.in_ok-modules.modules.items) (omega (arith, few, c.requires.short))
+    (read c.in_ok-symbols.symbols.items c.in_ok-symbols.ensures.supported c.in_ok-symbols.ensures.symbols
+    (subst (λ ss. ReadsPieces 0 (pieces ss) (Ok (map plain_module c.in_ok-modules.modules.items))) c.deref.ensures.value c.in_ok-modules.ensures.modules))
 
 pub returns-clause-source : goal.returns-clause-source
 returns-clause-source c =

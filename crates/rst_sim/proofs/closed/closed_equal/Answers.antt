@@ -1,5 +1,6 @@
 use Rattle.std.proofs.Common.{◌≡◌, ◌∙◌, ◌<◌, length, ap, sym, arith}
-use Rattle.rst_sim.specs.Support.{next_support, narrowed, members}
+use Rattle.rst_gate.specs.ClosedSets.{next_support}
+use Rattle.rst_sim.specs.Supports.{narrowed, members}
 use Rattle.rst_sim.proofs.Sets.{within-itself, within-through, within-counted, narrowed-within, length-narrowed, members-narrowed, closed-within-narrowed, turn-smaller}
 use Rattle.rst_sim.proofs.closed.closed_equal.Goals as goal
 

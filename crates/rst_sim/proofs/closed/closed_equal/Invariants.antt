@@ -1,5 +1,6 @@
 use Rattle.std.proofs.Common.{◌≡◌, Bool, List, length}
-use Rattle.rst_sim.specs.Support.{IsWithin, IsClosedSet, members}
+use Rattle.rst_gate.specs.ClosedSets.{IsWithin, IsClosedSet}
+use Rattle.rst_sim.specs.Supports.{members}
 use Rattle.rst_sim.proofs.closed.closed_equal.Given as goal
 
 abbrev pub invariant-narrowing : goal.invariant-narrowing

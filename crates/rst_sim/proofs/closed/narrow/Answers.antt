@@ -1,5 +1,5 @@
 use Rattle.std.proofs.Common.{◌≡◌, ◌+◌, false, take}
-use Rattle.rst_sim.specs.Support.{narrowed}
+use Rattle.rst_sim.specs.Supports.{narrowed}
 use Rattle.rst_sim.proofs.Sets.{narrowed_more}
 use Rattle.rst_sim.proofs.closed.narrow.Goals as goal
 

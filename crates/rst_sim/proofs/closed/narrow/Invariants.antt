@@ -1,5 +1,5 @@
 use Rattle.std.proofs.Common.{◌≡◌, take}
-use Rattle.rst_sim.specs.Support.{narrowed}
+use Rattle.rst_sim.specs.Supports.{narrowed}
 use Rattle.rst_sim.proofs.closed.narrow.Given as goal
 
 abbrev pub invariant-loop-i : goal.invariant-loop-i

@@ -1,27 +1,18 @@
-use Rattle.std.proofs.Common.{◌≡◌, ◌∙◌, true, Ok, Err, refl, sym, ap}
+use Rattle.std.proofs.Common.{subst}
+use Rattle.std.specs.Prelude.{IfOk}
 use Rattle.rst_tree.specs.Trees.{plain}
 use Rattle.rst_word.specs.Plain.{plain_word}
-use Rattle.rst_width.specs.Typed.{plain_typed}
-use Rattle.rst_width.specs.Scopes.{names_of}
-use Rattle.rst_width.specs.Sizing.{sized}
-use Rattle.rst_width.specs.Sized.{in_context}
-use Rattle.rst_width.specs.Answers.{widened, constant_answer}
-use Rattle.rst_width.specs.Plain.{plain_sized, plain_answer}
-use Rattle.rst_width.proofs.AgreeSizing.{constant_value}
-use Rattle.rst_width.proofs.Outcomes.{gives_fault, typed_call}
+use Rattle.rst_width.specs.Scopes.{Names}
+use Rattle.rst_width.specs.Answers.{Gives, HasValue, constant_answer}
+use Rattle.rst_width.proofs.NameTables.{names_alone}
 use Rattle.rst_width.proofs.calls.constant.Goals as goal
 
-pub returns-in-Ok : goal.returns-in-Ok
-returns-in-Ok c =
-    let s = sized true (names_of c.args.scope.now) (plain c.args.expr.now) in
-    let is = typed_call s (plain_sized c.in_ok-sized.sized) c.own.result c.widened-context.result c.args.context c.requires c.in_ok-sized.ensures.exact c.own.ensures c.widened-context.ensures in
-    let found : in_context true s (widened s c.args.context) ≡ Ok (plain_typed c.in-Ok.typed) = sym is ∙ sym c.in_ok-typed.ensures.exact ∙ ap plain_answer c.in-Ok.is in
-    let exact : constant_answer (names_of c.args.scope.now) (plain c.args.expr.now) c.args.context ≡ Ok (plain_word c.constant_word.result) = rw found (ap Ok (sym c.constant_word.ensures)) in
-    record { exact = exact; value = constant_value (names_of c.args.scope.now) (plain c.args.expr.now) c.args.context (plain_word c.constant_word.result) exact }
+pub returns-clause-exact : goal.returns-clause-exact
+returns-clause-exact c =
+    subst (λ (names : Names). Gives plain_word c.constant_among.result (constant_answer names (plain c.args.expr.now) c.args.context))
+    (names_alone c.args.scope.now c.new-unshaped.result c.new-unshaped.ensures) c.constant_among.ensures.exact
 
-pub returns-in-Err : goal.returns-in-Err
-returns-in-Err c =
-    let s = sized true (names_of c.args.scope.now) (plain c.args.expr.now) in
-    let is = typed_call s (plain_sized c.in_ok-sized.sized) c.own.result c.widened-context.result c.args.context c.requires c.in_ok-sized.ensures.exact c.own.ensures c.widened-context.ensures in
-    let found : in_context true s (widened s c.args.context) ≡ Err c.in-Err.fault = sym is ∙ sym c.in_ok-typed.ensures.exact ∙ ap plain_answer c.in-Err.is in
-    record { exact = gives_fault plain_word c.in-Err.fault _ (rw found refl); value = tt }
+pub returns-clause-value : goal.returns-clause-value
+returns-clause-value c =
+    subst (λ (names : Names). IfOk c.constant_among.result (λ w. HasValue names (plain c.args.expr.now) c.args.context (plain_word w)))
+    (names_alone c.args.scope.now c.new-unshaped.result c.new-unshaped.ensures) c.constant_among.ensures.value

@@ -1,0 +1,5 @@
+pub mod Rows
+pub mod Lists
+pub mod Until
+pub mod Steps
+pub mod Laws
