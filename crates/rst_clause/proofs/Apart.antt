@@ -105,6 +105,7 @@ values_lie n (t ∷ path) v h k kin = here t (h 0 (omega arith)) (values_lie (su
   where
     moved : (i : ℕ) → suc n + i ≡ n + suc i
     moved i = omega arith
+
     here : (t : Tern) → v (suc (n + 0)) ≡ value_of t → ((k : ℤ) → Contains (literals_from (suc n) path) k → literal_holds v k ≡ true)
         → (k : ℤ) → Contains (literals_from n (t ∷ path)) k → literal_holds v k ≡ true
     here Zero e rest k kin = elim (Contains-cons_cases (negsuc n) (literals_from (suc n) path) k kin) [

@@ -4,8 +4,6 @@
 
 mod dimacs;
 mod finding;
-mod posing;
-mod query;
 mod solving;
 
 use std::{env, io};

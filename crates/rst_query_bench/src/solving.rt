@@ -1,8 +1,8 @@
 // Solves a query, replays its log, and prints what that took.
-use crate::query::read;
 use rst_check::refutes;
 use rst_clause::{ClauseStore, Clauses};
 use rst_outside::NoMemory;
+use rst_query_text::read;
 use rst_solve::{Answer, solve};
 use std::rt::{Clock, Files};
 use std::time::Instant;

@@ -1,24 +1,33 @@
 // What the solver answers, and that the checker confirms its logs.
+ghost use Rattle.std.specs.Prelude.{◌<◌, ◌^◌, unsigned_abs};
+
 use rst_check::refutes;
-use rst_clause::{Clause, ClauseDomain, Clauses, Lit, Log};
+use rst_clause::{Clause, Clauses, Lit, Log};
 use rst_outside::NoMemory;
+use rst_query_text::{Posing, read};
 use rst_solve::{Answer, solve};
-use rst_value::{Domain, Tern};
+use rst_value::Tern;
 use std::alloc::Global;
 use std::test::Fail;
 
 // Two free bits that have to differ, and both to be true as well where that is asked.
 fn two_bits(alloc: Global, both: bool) -> Result<Clauses, NoMemory> {
-    let mut domain = ClauseDomain::new(alloc, 2)?;
-    let x = domain.free_bit(0);
-    let y = domain.free_bit(1);
-    let differ = domain.xor(x, y)?;
-    let meet = domain.and(x, y)?;
-    domain.require(&[differ])?;
     if both {
-        domain.require(&[meet])?;
+        read(alloc, b"free 2\nxor 1 2\nand 1 2\nrequire 4\nrequire 5\n")
+    } else {
+        read(alloc, b"free 2\nxor 1 2\nrequire 4\n")
     }
-    Ok(domain.finish())
+}
+
+// The literal of the free bit, from 0.
+fn literal(bit: u32) -> Lit
+    ensures { unsigned_abs result < 2 ^ 31 }
+{
+    if bit < 1_000_000 {
+        Lit::of_variable(bit + 1)
+    } else {
+        Lit::of_variable(1)
+    }
 }
 
 // The log without its last line.
@@ -73,13 +82,13 @@ fn models_solve(rt: HostRuntime) -> Result<(), Fail> {
 
 // Free bits of which one has to be true.
 fn one_of_all(alloc: Global, free: u32) -> Result<Clauses, NoMemory> {
-    let mut domain = ClauseDomain::new(alloc, free)?;
+    let mut posing = Posing::new(alloc, free)?;
     let mut lits = Vec::new(alloc);
     for i in 0..free {
-        lits.push(domain.free_bit(i))?;
+        lits.push(literal(i))?;
     }
-    domain.require(&lits)?;
-    Ok(domain.finish())
+    posing.require(&lits)?;
+    Ok(posing.finish())
 }
 
 // How many bits of the model are true, or None where there is no model.
@@ -109,20 +118,20 @@ const HOLES: u32 = 6;
 
 // Seven pigeons that sit alone in six holes: the free bit 6p + h is true where p sits in h.
 fn pigeons(alloc: Global) -> Result<Clauses, NoMemory> {
-    let mut domain = ClauseDomain::new(alloc, (HOLES + 1) * HOLES)?;
-    for pigeon in 0..=HOLES {
+    let mut posing = Posing::new(alloc, (HOLES + 1) * HOLES)?;
+    for pigeon in 0..HOLES + 1 {
         let mut somewhere: Vec<Lit> = Vec::new(alloc);
         for hole in 0..HOLES {
-            let here = domain.free_bit(HOLES * pigeon + hole);
+            let here = literal(HOLES.wrapping_mul(pigeon).wrapping_add(hole));
             somewhere.push(here)?;
             for other in 0..pigeon {
-                let there = domain.free_bit(HOLES * other + hole);
-                domain.require(&[here.opposite(), there.opposite()])?;
+                let there = literal(HOLES.wrapping_mul(other).wrapping_add(hole));
+                posing.require(&[here.opposite(), there.opposite()])?;
             }
         }
-        domain.require(&somewhere)?;
+        posing.require(&somewhere)?;
     }
-    Ok(domain.finish())
+    Ok(posing.finish())
 }
 
 // Whether the two paths know a place differently.

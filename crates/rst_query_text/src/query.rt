@@ -1,5 +1,5 @@
 // Reads the text of a query.
-use crate::posing::Posing;
+use crate::Posing;
 use rst_clause::{Clauses, Lit};
 use rst_outside::NoMemory;
 use std::alloc::Global;
@@ -104,7 +104,7 @@ fn end_line(alloc: Global, posing: &mut Posing, r: &mut Reading) -> Result<(), N
 }
 
 /// The clauses of the query that the text spells.
-pub(crate) fn read(alloc: Global, text: &[u8]) -> Result<Clauses, NoMemory> {
+pub fn read(alloc: Global, text: &[u8]) -> Result<Clauses, NoMemory> {
     let mut posing = Posing::new(alloc, 0)?;
     let mut r = Reading {
         line: Line::Nothing,

@@ -2,7 +2,7 @@ use Rattle.std.proofs.Common.{arith, ◌≡◌, ◌<◌, length, subst, ap, ◌�
 use Rattle.std.proofs.Math.Seq.{take-length}
 use Rattle.std.proofs.lemmas.List.Elements.{All-more}
 use Rattle.rst_clause.specs.Literals.{IsLiteral, AreLiterals}
-use Rattle.rst_query_bench.proofs.posing.Posing.has_all.Goals as goal
+use Rattle.rst_query_text.proofs.posing.Posing.has_all.Goals as goal
 
 pub loop-i-preserved : goal.loop-i-preserved
 loop-i-preserved c =

@@ -9,13 +9,13 @@ use std::alloc::Global;
 
 /// A query under construction. A line that names a variable which is not there yet is left out.
 #[derive(Drop)]
-pub(crate) struct Posing {
+pub struct Posing {
     domain: ClauseDomain,
 }
 
 impl Posing {
     /// No gate over so many free bits.
-    pub(crate) fn new(alloc: Global, free: u32) -> Result<Posing, NoMemory> {
+    pub fn new(alloc: Global, free: u32) -> Result<Posing, NoMemory> {
         if free >= 1_073_741_824 {
             return Err(NoMemory);
         }
@@ -46,7 +46,7 @@ impl Posing {
     }
 
     /// The next variable is the conjunction.
-    pub(crate) fn and(&mut self, a: Lit, b: Lit) -> Result<(), NoMemory> {
+    pub fn and(&mut self, a: Lit, b: Lit) -> Result<(), NoMemory> {
         if self.has(a) && self.has(b) {
             let _z = self.domain.and(a, b)?;
         }
@@ -54,7 +54,7 @@ impl Posing {
     }
 
     /// The next variable is the exclusive or.
-    pub(crate) fn xor(&mut self, a: Lit, b: Lit) -> Result<(), NoMemory> {
+    pub fn xor(&mut self, a: Lit, b: Lit) -> Result<(), NoMemory> {
         if self.has(a) && self.has(b) {
             let _z = self.domain.xor(a, b)?;
         }
@@ -62,7 +62,7 @@ impl Posing {
     }
 
     /// The next variable is `one` where `select` holds, and `zero` elsewhere.
-    pub(crate) fn mux(&mut self, select: Lit, one: Lit, zero: Lit) -> Result<(), NoMemory> {
+    pub fn mux(&mut self, select: Lit, one: Lit, zero: Lit) -> Result<(), NoMemory> {
         if self.has(select) && self.has(one) && self.has(zero) {
             let _z = self.domain.mux(select, one, zero)?;
         }
@@ -70,7 +70,7 @@ impl Posing {
     }
 
     /// One of the literals is to hold.
-    pub(crate) fn require(&mut self, lits: &[Lit]) -> Result<(), NoMemory> {
+    pub fn require(&mut self, lits: &[Lit]) -> Result<(), NoMemory> {
         if self.has_all(lits) {
             self.domain.require(lits)?;
         }
@@ -78,7 +78,7 @@ impl Posing {
     }
 
     /// The clauses.
-    pub(crate) fn finish(self) -> Clauses {
+    pub fn finish(self) -> Clauses {
         self.domain.finish()
     }
 }
