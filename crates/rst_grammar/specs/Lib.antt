@@ -8,7 +8,6 @@ pub mod Declarations
 pub mod Links
 pub mod Items
 pub mod Modules
-
 -- These are words of proofs: readers from left to right, which are proved to read just what the grammar spells.
 pub mod Reading
 pub mod ReadStatement
