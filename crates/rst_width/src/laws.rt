@@ -16,13 +16,13 @@ ghost use Rattle.rst_width.specs.Scopes.{Names, Extent, AreMeanings, names_of, n
 ghost use Rattle.rst_width.specs.Typed as node;
 ghost use Rattle.rst_width.specs.Typed.{Typed, names_signal, sized_as};
 ghost use Rattle.rst_width.specs.Values.{Valuation, value, constant_word};
-ghost use Rattle.rst_width.specs.Fit.{IsFit};
+ghost use Rattle.rst_width.specs.Fit.{IsFit, IsFitAt};
 ghost use Rattle.rst_width.specs.Reads.{HaveWidths, ReadsInside};
-ghost use Rattle.rst_width.specs.Cut.{IsFitAt, WorksInContext, cut_shape};
+ghost use Rattle.rst_width.specs.Cut.{cut_shape};
 ghost use Rattle.rst_width.specs.Sized.{Good, larger, is_division};
 ghost use Rattle.rst_width.specs.Steps.{unary_step, sum_step, division_step, shift_step, choose_step};
 ghost use Rattle.rst_width.specs.Selects.{part_shape, bit_found, part_found};
-ghost use Rattle.rst_width.specs.Sizing.{Arithmetic, Moving, Comparing, Deciding, kind_of, one_bit, word_of, above, above_both, repeat_shape, join_found, counted_found};
+ghost use Rattle.rst_width.specs.Sizing.{WorksInContext, Arithmetic, Moving, Comparing, Deciding, kind_of, one_bit, word_of, above, above_both, repeat_shape, join_found, counted_found};
 ghost use Rattle.rst_width.specs.Table.{itself, each_itself, becomes, stands, number, table_shape, table_sum};
 ghost use Rattle.rst_width.specs.Answers.{own_shape, widened_shape, placed_shape, typed_answer, placed_answer, constant_answer};
 
