@@ -8,7 +8,7 @@ use Rattle.rst_width.specs.Typed.{Typed, shape_of}
 use Rattle.rst_width.specs.Sized.{Answer, Sized, own}
 use Rattle.rst_width.specs.Sizing.{sized}
 use Rattle.rst_width.specs.Answers.{own_shape, widened_shape, placed_shape, typed_answer, placed_answer}
-use Rattle.rst_width.specs.Cut.{FitsIn}
+use Rattle.rst_width.specs.Fit.{FitsIn}
 use Rattle.rst_width.proofs.Fits.{in_context-fit, by_itself-fit}
 use Rattle.rst_width.proofs.SizingFits.{sized-fit}
 

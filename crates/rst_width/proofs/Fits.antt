@@ -13,9 +13,9 @@ use Rattle.rst_width.specs.Typed.{Typed, Node, typed, shape_of, sized_as, names_
 use Rattle.rst_width.specs.Typed as node
 use Rattle.rst_width.specs.Values.{constant_word}
 use Rattle.rst_width.specs.Sized.{Answer, Sized, Leaf, Unary, Binary, Shift, Choose, Earlier, Own, Good, own, in_context, by_itself, brought, operated, divided, ◌>>=◌}
-use Rattle.rst_width.specs.Sizing.{kind_of, Kind, Arithmetic, Moving}
-use Rattle.rst_width.specs.Fit.{IsShape, IsFit, IsFitNode, FitsBinary, FitsDivisor, FitsDivision}
-use Rattle.rst_width.specs.Cut.{WorksInContext, IsFitSized, IsFitAt, FitsIn}
+use Rattle.rst_width.specs.Sizing.{WorksInContext, kind_of, Kind, Arithmetic, Moving}
+use Rattle.rst_width.specs.Fit.{IsShape, IsFit, IsFitNode, IsFitAt, FitsIn, FitsBinary, FitsDivisor, FitsDivision}
+use Rattle.rst_width.specs.Cut.{IsFitSized}
 
 shape_fits : (w : ℕ) (s : Bool) → 0 < w → w ≤ 64 → IsShape (sized_as w s)
 shape_fits w s h k = record { some_bits = h; at_most_64 = k }

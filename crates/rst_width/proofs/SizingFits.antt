@@ -19,8 +19,8 @@ use Rattle.rst_width.specs.Values.{constant_number}
 use Rattle.rst_width.specs.Sized.{Answer, Sized, Found, Leaf, Unary, Binary, Shift, Choose, Earlier, Own, Good, own, larger, in_context, by_itself}
 use Rattle.rst_width.specs.Selects.{signal_at, stays_inside, in_range, place_in, bit_of, bit_found, part_of, part_shape, number_of_part, leaves_range}
 use Rattle.rst_width.specs.Sizing.{Kind, Arithmetic, Moving, Comparing, Deciding, kind_of, one_bit, above, above_both, unary_sized, binary_sized, cast_sized, Parts, join_sized, join_found, repeat_sized, repeat_shape, repeat_found, counted_found, with_part, named, sized, sized_parts, part_sized}
-use Rattle.rst_width.specs.Fit.{IsFit, IsFitNode, AreFit, FitsBinary, widths}
-use Rattle.rst_width.specs.Cut.{cut, IsFitFound, IsFitSized, IsFitAt}
+use Rattle.rst_width.specs.Fit.{IsFit, IsFitAt, IsFitNode, AreFit, FitsBinary, widths}
+use Rattle.rst_width.specs.Cut.{cut, IsFitFound, IsFitSized}
 use Rattle.rst_width.proofs.Fits.{in_context-fit, by_itself-fit, by_itself-is_fit, bind, no_divisor, fit_width}
 
 -- a choice between two facts

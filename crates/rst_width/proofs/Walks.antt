@@ -7,8 +7,8 @@ use Rattle.rst_width.specs.declared.typed_expr.WidthFault.{WidthFault}
 use Rattle.rst_width.specs.Typed.{plain_typed}
 use Rattle.rst_width.specs.Plain.{plain_answer}
 use Rattle.rst_width.specs.Sized.{Sized, own, in_context}
-use Rattle.rst_width.specs.Fit.{IsFit}
-use Rattle.rst_width.specs.Cut.{IsFitSized, FitsIn}
+use Rattle.rst_width.specs.Fit.{IsFit, FitsIn}
+use Rattle.rst_width.specs.Cut.{IsFitSized}
 use Rattle.rst_width.proofs.Fits.{in_context-fit}
 
 -- what a walk with tests answers fits

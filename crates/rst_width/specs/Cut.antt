@@ -1,12 +1,10 @@
 -- Sized expressions as the code holds them: 65 stands for every own width above 64.
 use Rattle.std.specs.Prelude.{◌≡◌, ℕ, min, ◌≤◌, ◌<◌, Bool, ◌+◌, Result, Ok, IfOk}
-use Rattle.rst_word.specs.declared.ops.UnaryOp.{UnaryOp}
-use Rattle.rst_word.specs.declared.ops.UnaryOp.TheVariants as unary
 use Rattle.rst_width.specs.declared.typed_expr.Shape.{Shape}
 use Rattle.rst_width.specs.Sized.{Answer, own, by_itself, ◌>>=◌, Sized, Found, Leaf, Unary, Binary, Shift, Choose, Earlier, Own, Good}
-use Rattle.rst_width.specs.Sizing.{Parts, Arithmetic, Moving, kind_of}
+use Rattle.rst_width.specs.Sizing.{WorksInContext, Parts, Arithmetic, Moving, kind_of}
 use Rattle.rst_width.specs.Fit.{IsFit, IsFitNode}
-use Rattle.rst_width.specs.Typed.{Typed, TypedList, end, more, appended, sized_as, shape_of}
+use Rattle.rst_width.specs.Typed.{Typed, TypedList, end, more, appended, sized_as}
 use Rattle.rst_width.specs.declared.typed_expr.WidthFault.{WidthFault}
 
 abbrev pub cut_width : ℕ → ℕ
@@ -44,13 +42,6 @@ abbrev pub HasWidth : ℕ → TypedList → Type 0
 HasWidth width end = Unit {0}
 HasWidth width (more x xs) = 0 < width
 
--- the operators with one operand that work in context
-abbrev pub WorksInContext : UnaryOp → Type 0
-WorksInContext unary.Plus = Unit {0}
-WorksInContext unary.Minus = Unit {0}
-WorksInContext unary.Invert = Unit {0}
-WorksInContext _ = ⊥
-
 -- What stands at a leaf has a width, and fits, whatever sign the context gives it, where that is at most 64.
 abbrev pub IsFitFound : Shape → Found → Type 0
 IsFitFound shape (Earlier fault) = Unit {0}
@@ -64,12 +55,3 @@ IsFitSized (Unary op a) = WorksInContext op × IsFitSized a
 IsFitSized (Binary op a b) = (kind_of op ≡ Arithmetic) × IsFitSized a × IsFitSized b
 IsFitSized (Shift op a amount) = (kind_of op ≡ Moving) × IsFitSized a × IfOk amount IsFit
 IsFitSized (Choose c a b) = IfOk c IsFit × IsFitSized a × IsFitSized b
-
--- an expression of this width and sign that fits
-pub record IsFitAt (context : Shape) (e : Typed) : Type 0 where
-  pub fit : IsFit e
-  pub at : shape_of e ≡ context
-
--- an answer that fits in this context
-abbrev pub FitsIn : Shape → Answer → Type 0
-FitsIn context answer = IfOk answer (IsFitAt context)

@@ -1,5 +1,5 @@
 -- Which typed expressions fit together: every place has the width that its context asks for.
-use Rattle.std.specs.Prelude.{◌≡◌, ℕ, ◌+◌, ◌*◌, ◌≤◌, ◌<◌, false}
+use Rattle.std.specs.Prelude.{◌≡◌, ℕ, ◌+◌, ◌*◌, ◌≤◌, ◌<◌, false, IfOk}
 use Rattle.rst_word.specs.declared.ops.UnaryOp.{UnaryOp}
 use Rattle.rst_word.specs.declared.ops.UnaryOp.TheVariants as unary
 use Rattle.rst_word.specs.declared.ops.BinaryOp.{BinaryOp}
@@ -8,6 +8,7 @@ use Rattle.rst_word.specs.Words.{IsWord}
 use Rattle.rst_width.specs.declared.typed_expr.Shape.{Shape}
 use Rattle.rst_width.specs.Typed.{Typed, Node, TypedList, typed, Word, Signal, Slice, Pick, Unary, Binary, Choose, Join, Repeat, Extend, Sign, end, more, shape_of, names_signal}
 use Rattle.rst_width.specs.Values.{constant_word}
+use Rattle.rst_width.specs.Sized.{Answer}
 use Rattle.rst_width.specs.Sizing.{Kind, Arithmetic, Moving, Comparing, Deciding, kind_of}
 
 -- 1 to 64 bits
@@ -65,3 +66,12 @@ abbrev mutual
   pub AreFit : TypedList → Type 0
   AreFit end = Unit {0}
   AreFit (more x xs) = IsFit x × AreFit xs
+
+-- an expression of this width and sign that fits
+pub record IsFitAt (context : Shape) (e : Typed) : Type 0 where
+  pub fit : IsFit e
+  pub at : shape_of e ≡ context
+
+-- an answer that fits in this context
+abbrev pub FitsIn : Shape → Answer → Type 0
+FitsIn context answer = IfOk answer (IsFitAt context)

@@ -45,6 +45,13 @@ above_both (Ok x) (Ok y) make = Good (make x y)
 above_both (Ok x) (Err fault) make = Earlier fault
 above_both (Err fault) y make = Earlier fault
 
+-- the operators with one operand that work in context
+abbrev pub WorksInContext : UnaryOp → Type 0
+WorksInContext unary.Plus = Unit {0}
+WorksInContext unary.Minus = Unit {0}
+WorksInContext unary.Invert = Unit {0}
+WorksInContext _ = ⊥
+
 -- `+ - ~` work in context. `!` and the reductions take an operand by itself, and give one unsigned bit.
 abbrev pub unary_sized : UnaryOp → Sized → Sized
 unary_sized unary.Plus a = Unary unary.Plus a

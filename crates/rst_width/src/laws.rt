@@ -16,13 +16,15 @@ ghost use Rattle.rst_width.specs.Scopes.{Names, Extent, AreMeanings, names_of, n
 ghost use Rattle.rst_width.specs.Typed as node;
 ghost use Rattle.rst_width.specs.Typed.{Typed, names_signal, sized_as};
 ghost use Rattle.rst_width.specs.Values.{Valuation, value, constant_word};
-ghost use Rattle.rst_width.specs.Fit.{IsFit};
+ghost use Rattle.rst_width.specs.Fit.{IsFit, IsFitAt};
 ghost use Rattle.rst_width.specs.Reads.{HaveWidths, ReadsInside};
-ghost use Rattle.rst_width.specs.Cut.{IsFitAt, WorksInContext, cut_shape};
+ghost use Rattle.rst_width.specs.Cut.{cut_shape};
 ghost use Rattle.rst_width.specs.Sized.{Good, larger, is_division};
 ghost use Rattle.rst_width.specs.Steps.{unary_step, sum_step, division_step, shift_step, choose_step};
 ghost use Rattle.rst_width.specs.Selects.{part_shape, bit_found, part_found};
-ghost use Rattle.rst_width.specs.Sizing.{Arithmetic, Moving, Comparing, Deciding, kind_of, one_bit, word_of, above, above_both, repeat_shape, join_found, counted_found};
+ghost use Rattle.rst_width.specs.Sizing.{WorksInContext, Arithmetic, Moving, Comparing, Deciding, kind_of, one_bit, word_of, above, above_both, repeat_shape, join_found, counted_found};
+ghost use Rattle.rst_tree.specs.Targets.{Place};
+ghost use Rattle.rst_width.specs.Targets.{target_expr, IsPlace};
 ghost use Rattle.rst_width.specs.Table.{itself, each_itself, becomes, stands, number, table_shape, table_sum};
 ghost use Rattle.rst_width.specs.Answers.{own_shape, widened_shape, placed_shape, typed_answer, placed_answer, constant_answer};
 
@@ -84,6 +86,11 @@ pub fn answers_fit()
     ensures placed { (names : Names) → AreMeanings names → (e : Tree) (context : Shape) (t : Typed) → placed_answer names e context ≡ Ok t → IsFitAt (placed_shape (own_shape names e) context) t }
     ensures typed_inside { (widths : ℕ → ℕ) (names : Names) → AreMeanings names → HaveWidths widths names → (e : Tree) (width : ℕ) (t : Typed) → typed_answer names e width ≡ Ok t → ReadsInside widths t }
     ensures placed_inside { (widths : ℕ → ℕ) (names : Names) → AreMeanings names → HaveWidths widths names → (e : Tree) (context : Shape) (t : Typed) → placed_answer names e context ≡ Ok t → ReadsInside widths t }
+{}
+
+/// The typed form of a target consists of signals, slices of signals, bits with a variable index, parameters, and joins of these.
+pub fn targets_are_places()
+    ensures { (names : Names) (target : Place) (t : Typed) → typed_answer names (target_expr target) 0 ≡ Ok t → IsPlace t }
 {}
 
 /// Where each signal has a number of its width, the value of a typed expression is a word. (Its width and sign are those of the

@@ -5,8 +5,8 @@ ghost use Rattle.rst_width.specs.Typed.{plain_typed, plain_node, typed, Binary, 
 ghost use Rattle.rst_width.specs.Plain.{plain_sized, plain_answer, plain_found};
 ghost use Rattle.rst_width.specs.Sized.{Leaf, larger, own, brought, is_division, operated, in_context, by_itself};
 ghost use Rattle.rst_width.specs.Steps.{unary_step, binary_step, shift_step, choose_step};
-ghost use Rattle.rst_width.specs.Cut.{IsFitSized, FitsIn};
-ghost use Rattle.rst_width.specs.Fit.{IsFit};
+ghost use Rattle.rst_width.specs.Cut.{IsFitSized};
+ghost use Rattle.rst_width.specs.Fit.{IsFit, FitsIn};
 
 use crate::sized::{Answer, Found, SizedExpr};
 use crate::typed_expr::{Shape, TypedExpr, TypedNode, WidthFault};

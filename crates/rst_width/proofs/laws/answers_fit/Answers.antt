@@ -1,7 +1,7 @@
 use Rattle.std.proofs.Common.{true, false, arith}
 use Rattle.rst_width.specs.Sized.{own}
 use Rattle.rst_width.specs.Sizing.{sized}
-use Rattle.rst_width.specs.Cut.{IsFitAt}
+use Rattle.rst_width.specs.Fit.{IsFitAt}
 use Rattle.rst_width.specs.Reads.{ReadsInside}
 use Rattle.rst_width.specs.Answers.{own_shape, widened_shape, placed_shape}
 use Rattle.rst_width.proofs.AnswersFit.{typed-fits, placed-fits, of_ok}

@@ -1,6 +1,6 @@
 use Rattle.std.proofs.Common.{subst, sym}
 use Rattle.rst_width.specs.Plain.{plain_sized}
-use Rattle.rst_width.specs.Cut.{FitsIn}
+use Rattle.rst_width.specs.Fit.{FitsIn}
 use Rattle.rst_width.proofs.Fits.{in_context-fit}
 use Rattle.rst_width.proofs.typing.in_context.Goals as goal
 
