@@ -1,0 +1,4 @@
+pub mod Stands
+pub mod Loops
+pub mod Lists
+pub mod Meaning

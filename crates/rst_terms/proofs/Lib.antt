@@ -1,0 +1,15 @@
+pub mod Places
+pub mod Sums
+pub mod Differences
+pub mod Connectives
+pub mod Comparisons
+pub mod Choices
+pub mod Selects
+pub mod ShiftWidths
+pub mod ShiftsUp
+pub mod ShiftsDown
+pub mod Products
+pub mod Operators
+pub mod Respects
+pub mod RespectsMoves
+pub mod RespectsOperators

@@ -1,0 +1,5 @@
+pub mod Parts
+pub mod Operands
+pub mod Values
+pub mod Related
+pub mod Widths
