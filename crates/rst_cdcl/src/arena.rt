@@ -1,9 +1,10 @@
-// Clauses of three literals or more, laid flat: the number of literals, the glue, the literals.
+// Clauses of three literals or more, laid flat: the number of literals, the glue, where the last
+// literal to watch was found, the literals.
 use crate::cells::{narrow, set_word, word};
 use std::alloc::{AllocError, Global};
 
 /// Words before the literals of a clause.
-pub const HEADER: u32 = 2;
+pub const HEADER: u32 = 3;
 
 /// The clauses. A clause is named by its place.
 #[derive(Drop)]
@@ -24,6 +25,7 @@ impl Arena {
         let place = narrow(self.words.len());
         self.words.push(narrow(lits.len()))?;
         self.words.push(glue)?;
+        self.words.push(2)?;
         self.words.extend_from_slice(lits)?;
         Ok(place)
     }
@@ -49,7 +51,7 @@ impl Arena {
     #[inline(always)]
     pub fn lits(&self, clause: u32) -> &[u32] {
         let size = word(&self.words, clause) as usize;
-        let start = clause as usize + 2;
+        let start = clause as usize + HEADER as usize;
         let end = start + size;
         if end <= self.words.len() {
             &self.words[start..end]

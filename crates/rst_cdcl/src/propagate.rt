@@ -1,7 +1,7 @@
 // Unit propagation.
-use crate::arena::Arena;
+use crate::arena::{Arena, HEADER};
 use crate::assignment::{Assignment, FALSE, Reason, TRUE};
-use crate::cells::{byte, word};
+use crate::cells::{byte, narrow, set_word, word};
 use crate::watches::{BINARY, Watch, Watches};
 use std::alloc::AllocError;
 
@@ -20,9 +20,22 @@ enum Look {
     False(u32),
 }
 
-// Looks at a clause of which the literal became false, and finds another literal to watch.
+// The place of a literal that is not false, from one place on and before another.
 #[inline(always)]
-fn look_at_literals(values: &[u8], clause: &mut [u32], falsified: u32) -> Look {
+fn not_false(values: &[u8], clause: &[u32], from: usize, end: usize) -> Option<usize> {
+    for k in from..end {
+        if k < clause.len() && byte(values, clause[k]) != FALSE {
+            return Some(k);
+        }
+    }
+    None
+}
+
+// Looks at a clause of which the literal became false, and finds another literal to watch, from
+// the place on at which the last one was found. So a long clause is gone over once, and not at
+// each of its literals from the beginning.
+#[inline(always)]
+fn look_at_literals(values: &[u8], clause: &mut [u32], falsified: u32, last: &mut u32) -> Look {
     if clause.len() < 2 {
         return Look::Satisfied(falsified);
     }
@@ -31,12 +44,18 @@ fn look_at_literals(values: &[u8], clause: &mut [u32], falsified: u32) -> Look {
     if value == TRUE {
         return Look::Satisfied(other);
     }
-    for k in 2..clause.len() {
-        let lit = clause[k];
-        if byte(values, lit) != FALSE {
+    let from = *last as usize;
+    let found = match not_false(values, clause, from, clause.len()) {
+        None => not_false(values, clause, 2, from),
+        some => some,
+    };
+    if let Some(k) = found {
+        if k < clause.len() {
+            let lit = clause[k];
             clause[0] = other;
             clause[1] = lit;
             clause[k] = falsified;
+            *last = narrow(k);
             return Look::Moves(other, lit);
         }
     }
@@ -51,13 +70,19 @@ fn look_at_literals(values: &[u8], clause: &mut [u32], falsified: u32) -> Look {
 #[inline(always)]
 fn look_at(values: &[u8], words: &mut [u32], place: u32, falsified: u32) -> Look {
     let size = word(words, place) as usize;
-    let start = place as usize + 2;
+    let start = place as usize + HEADER as usize;
     let end = start + size;
-    if end <= words.len() {
-        look_at_literals(values, &mut words[start..end], falsified)
-    } else {
-        Look::Satisfied(falsified)
+    if end > words.len() {
+        return Look::Satisfied(falsified);
     }
+    let at = place.wrapping_add(2);
+    let before = word(words, at);
+    let mut last = before;
+    let look = look_at_literals(values, &mut words[start..end], falsified, &mut last);
+    if last != before {
+        set_word(words, at, last);
+    }
+    look
 }
 
 // Keeps the watches that were not looked at.

@@ -1,5 +1,5 @@
 // Drops half of the learnt clauses, and closes the gaps.
-use crate::arena::Arena;
+use crate::arena::{Arena, HEADER};
 use crate::assignment::{Assignment, Origin, Reason, TRUE};
 use crate::cells::{narrow, word};
 use crate::watches::{BINARY, List, Watch, Watches};
@@ -18,7 +18,7 @@ struct Candidate {
 
 // Whether the clause is why one of its first two literals stands.
 fn is_reason(assignment: &Assignment, arena: &Arena, clause: u32) -> bool {
-    for k in 2..4 {
+    for k in HEADER..HEADER + 2 {
         let lit = word(&arena.words, clause.wrapping_add(k));
         if assignment.value(lit) == TRUE {
             if let Reason::Clause(reason) = assignment.origin(lit >> 1).reason {
@@ -90,7 +90,7 @@ fn move_clauses(
                 learnts.push(place)?;
             }
         }
-        clause = clause.wrapping_add(arena.size(clause)).wrapping_add(2);
+        clause = clause.wrapping_add(arena.size(clause)).wrapping_add(HEADER);
     }
     Ok(())
 }
