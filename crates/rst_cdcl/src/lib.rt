@@ -18,8 +18,6 @@ mod restart;
 mod scores;
 mod search;
 mod solver;
-#[cfg(test)]
-mod tests;
 mod watches;
 
 pub use log::Log;

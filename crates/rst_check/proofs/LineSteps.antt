@@ -9,8 +9,9 @@ use Rattle.rst_clause.specs.Propagation.Derived.{unit}
 use Rattle.rst_clause.specs.Trails.{Trail', pushed, Grows, IsComplete, IsQuiet, IsConsistent, AllFalse}
 use Rattle.rst_clause.proofs.Members.{Contains-nil, Contains-first, Contains-one, Contains-map, Contains-from_map, opposite-opposite}
 use Rattle.rst_clause.proofs.Extending.{derived_more}
-use Rattle.rst_clause.proofs.Grown.{grown_derived, false_closes, complete_open, Continues, continues_more, grown_continues, continues_has}
-use Rattle.rst_check.specs.Lines.{Begins}
+use Rattle.rst_clause.proofs.Grown.{grown_derived, false_closes, complete_open, Continues, continues_more, continues_take, grown_continues, continues_has}
+use Rattle.rst_watch.specs.Propagators.{Propagator', IsSettled}
+use Rattle.rst_check.specs.Lines.{IsLonger, IsBack}
 
 -- the trail continues the old one by the opposites of these literals, and all that stands is implied by the
 -- clauses with the line's literals false
@@ -73,13 +74,44 @@ stands_follows cs old done line t l s lin h = (
       (s.derived l h),
 )
 
-pub assumed_begins : (cs : List (List ℤ)) (old : Trail') (done line : List ℤ) (t : Trail') → Assumed cs old done line t → Begins old t
-assumed_begins cs old done line t s = record { vars = s.vars; more = s.continues.0; lits = s.continues.1 }
+-- the loop over the line: the clauses and levels are as they were
+pub record Assuming (old : Propagator') (done line : List ℤ) (p : Propagator') : Type 0 where
+  pub clauses : p.clauses ≡ old.clauses
+  pub floors : p.floors ≡ old.floors
+  pub assumed : Assumed old.clauses old.trail done line p.trail
 
-pub grown_begins : (cs : List (List ℤ)) (old : Trail') (done line : List ℤ) (s t : Trail') → Assumed cs old done line s → Grows cs s t → t.vars ≡ s.vars → Begins old t
-grown_begins cs old done line s t st g v =
-    let c : Continues old.lits t.lits = grown_continues cs old.lits s t g st.continues in
-    record { vars = v ∙ st.vars; more = c.0; lits = c.1 }
+pub assuming_longer : (old : Propagator') (done line : List ℤ) (p : Propagator') → Assuming old done line p → IsLonger old p
+assuming_longer old done line p a = record {
+  clauses = a.clauses;
+  floors = a.floors;
+  vars = a.assumed.vars;
+  more = a.assumed.continues.0;
+  lits = a.assumed.continues.1;
+}
+
+pub grown_longer : (old : Propagator') (done line : List ℤ) (p n : Propagator') → Assuming old done line p → Grows old.clauses p.trail n.trail → n.trail.vars ≡ p.trail.vars
+    → n.clauses ≡ p.clauses → n.floors ≡ p.floors → IsLonger old n
+grown_longer old done line p n a g v e f =
+    let c : Continues old.trail.lits n.trail.lits = grown_continues old.clauses old.trail.lits p.trail n.trail g a.assumed.continues in
+    record { clauses = e ∙ a.clauses; floors = f ∙ a.floors; vars = v ∙ a.assumed.vars; more = c.0; lits = c.1 }
+
+-- a level's beginning, what it added, and the way back
+pub taken_back : (old opened longer back : Propagator') → opened.floors ≡ length old.trail.lits ∷ old.floors → opened.clauses ≡ old.clauses → opened.trail ≡ old.trail
+    → IsLonger opened longer
+    → ((m : ℕ) (rest : List ℕ) → longer.floors ≡ m ∷ rest → back.trail.lits ≡ take m longer.trail.lits)
+    → ((m : ℕ) (rest : List ℕ) → longer.floors ≡ m ∷ rest → back.floors ≡ rest)
+    → ((m : ℕ) (rest : List ℕ) → longer.floors ≡ m ∷ rest → IsSettled back)
+    → back.trail.vars ≡ longer.trail.vars → back.clauses ≡ longer.clauses → IsBack old back
+taken_back old opened longer back fo eo to l lits floors settled v e =
+    let f : longer.floors ≡ length old.trail.lits ∷ old.floors = l.floors ∙ fo in
+    let before : opened.trail.lits ≡ old.trail.lits = ap (λ (t : Trail'). t.lits) to in
+    record {
+      clauses = e ∙ l.clauses ∙ eo;
+      floors = floors (length old.trail.lits) old.floors f;
+      vars = v ∙ l.vars ∙ ap (λ (t : Trail'). t.vars) to;
+      lits = lits (length old.trail.lits) old.floors f ∙ continues_take old.trail.lits longer.trail.lits (l.more, l.lits ∙ ap (λ z. z ++ l.more) before);
+      settled = settled (length old.trail.lits) old.floors f;
+    }
 
 module _ (cs : List (List ℤ)) (old : Trail') (line : List ℤ) (i : ℕ) (l : ℤ) (t : Trail') (lt : i < length line) (is : l ≡ get_or line i l) where
   more_line : take (i + 1) line ≡ take i line ++ l ∷ []

@@ -1,19 +1,17 @@
 -- All lines of a log.
 use Rattle.std.proofs.Common.{◌≡◌, ℕ, suc, ◌+◌, ◌-◌, ◌<◌, ◌≤◌, inl, inr, min, ℤ, List, [], ◌∷◌, ◌++◌, length, take, get_or, refl, sym, ◌∙◌, subst, ap, arith, append_assoc, length-append, append-nil, add-one, below_more}
-use Rattle.std.specs.List.{Contains}
-use Rattle.std.proofs.Math.Seq.{take-suc, take-length, take-append_seam, get_or-append_seam}
+use Rattle.std.proofs.Math.Seq.{take-suc, take-length, get_or-append_seam}
 use Rattle.std.proofs.lemmas.Bool.{cases_lt}
 use Rattle.std.proofs.lemmas.List.{get_or-take, length-take}
-use Rattle.std.proofs.lemmas.List.Elements.{All-take, Contains-get_or, Contains-append_left, Contains-append_right, Contains-append_cases}
-use Rattle.rst_clause.specs.Literals.{opposite, AreClauses, AreLiterals}
+use Rattle.std.proofs.lemmas.List.Elements.{Contains-push, Contains-get_or, Contains-append_left, Contains-append_right, Contains-append_cases}
+use Rattle.rst_clause.specs.Literals.{opposite}
 use Rattle.rst_clause.specs.Propagation.{Closes, units_against, Follows, AllDerived}
-use Rattle.rst_clause.specs.Trails.{Trail', Grows, AllFalse, IsComplete}
+use Rattle.rst_clause.specs.Trails.{Trail', Grows, AllFalse}
 use Rattle.rst_clause.specs.Queue.{IsFalseAt}
 use Rattle.rst_clause.proofs.Extending.{AreAmong, derived_more}
-use Rattle.rst_clause.proofs.Ranges.{AreClauses-append}
-use Rattle.rst_clause.proofs.Grown.{continues_take, grown_derived, false_closes}
-use Rattle.rst_clause.proofs.Members.{Contains-nil}
-use Rattle.rst_check.specs.Lines.{EachFollows, Begins}
+use Rattle.rst_clause.proofs.Grown.{grown_derived, false_closes}
+use Rattle.rst_clause.proofs.Members.{Contains-take}
+use Rattle.rst_check.specs.Lines.{EachFollows}
 
 -- a line follows from clauses that close, and more
 closes_follows : (small big : List (List ℤ)) (line : List ℤ) → AreAmong small big → Closes small → Follows big line
@@ -34,17 +32,11 @@ pub record Replayed (cs log : List (List ℤ)) (old : Trail') (all : List (List 
   pub follows : (j : ℕ) → j < i → Follows (cs ++ take j log) (get_or log j [])
   pub vars : trail.vars ≡ old.vars
   pub derived : AllDerived all trail.lits
-  pub complete : IsComplete trail.lits all
 
-pub replayed_start : (cs log : List (List ℤ)) (t : Trail') → AllDerived cs t.lits → IsComplete t.lits cs → Replayed cs log t cs t 0
-replayed_start cs log t d q = record { all_is = sym (append-nil cs); follows = λ j h. absurd (omega arith); vars = refl; derived = d; complete = q }
+pub replayed_start : (cs log : List (List ℤ)) (t : Trail') → AllDerived cs t.lits → Replayed cs log t cs t 0
+replayed_start cs log t d = record { all_is = sym (append-nil cs); follows = λ j h. absurd (omega arith); vars = refl; derived = d }
 
 module _ (cs log : List (List ℤ)) (old : Trail') (all : List (List ℤ)) (trail : Trail') (i : ℕ) (w : Replayed cs log old all trail i) where
-  pub replayed_in_range : AreClauses old.vars cs → AreClauses old.vars log → AreClauses trail.vars all
-  replayed_in_range p q =
-      subst (λ n. AreClauses n all) (sym w.vars)
-      (subst (λ z. AreClauses old.vars z) (sym w.all_is) (AreClauses-append old.vars cs (take i log) p (All-take (AreLiterals old.vars) i log q)))
-
   -- one more line
   module _ (c : List ℤ) (lt : i < length log) (read : c ≡ get_or log i []) where
     one_more : all ++ c ∷ [] ≡ cs ++ take (i + 1) log
@@ -62,44 +54,21 @@ module _ (cs log : List (List ℤ)) (old : Trail') (all : List (List ℤ)) (trai
     not_replayed fails each =
         fails (subst (λ z. Follows z c) (sym w.all_is) (subst (λ z. Follows (cs ++ take i log) z) (sym read) (each i lt)))
 
-    -- before the propagation from one that does, the trail being as it was
-    pub line_in_range : AreClauses old.vars cs → AreClauses old.vars log → (cut : Trail') → cut.vars ≡ trail.vars → AreClauses cut.vars (all ++ c ∷ [])
-    line_in_range p q cut v =
-        subst (λ n. AreClauses n (all ++ c ∷ [])) (sym (v ∙ w.vars))
-        (subst (λ z. AreClauses old.vars z) (sym one_more) (AreClauses-append old.vars cs (take (i + 1) log) p (All-take (AreLiterals old.vars) (i + 1) log q)))
-
-    pub line_complete : (cut : Trail') (n m : ℕ) → cut.lits ≡ trail.lits → n ≡ length trail.lits → m ≡ length all
-        → IsComplete (take n cut.lits) (take m (all ++ c ∷ []))
-    line_complete cut n m l en em =
-        let lits : take n cut.lits ≡ trail.lits = ap (λ z. take n z) l ∙ ap (λ k. take k trail.lits) en ∙ take-length trail.lits in
-        let clauses : take m (all ++ c ∷ []) ≡ all = ap (λ k. take k (all ++ c ∷ [])) em ∙ take-append_seam all (c ∷ []) in
-        subst (λ z. IsComplete z (take m (all ++ c ∷ []))) (sym lits) (subst (λ z. IsComplete trail.lits z) (sym clauses) w.complete)
-
-    line_derived : (cut new : Trail') → cut.lits ≡ trail.lits → Grows (all ++ c ∷ []) cut new → AllDerived (all ++ c ∷ []) new.lits
-    line_derived cut new l g =
-        grown_derived (all ++ c ∷ []) (all ++ c ∷ []) cut new (λ d h. h) g
-        (λ k h. derived_more all (all ++ c ∷ []) (λ d j. Contains-append_left all (c ∷ []) d j) k (w.derived k (subst (λ z. Contains z k) l h)))
-
     -- and behind it
-    pub replayed_more : (cut new : Trail') → Follows all c → cut.lits ≡ trail.lits → cut.vars ≡ trail.vars → Grows (all ++ c ∷ []) cut new
-        → new.vars ≡ cut.vars → IsComplete new.lits (all ++ c ∷ []) → Replayed cs log old (all ++ c ∷ []) new (i + 1)
-    replayed_more cut new f l v g nv q = record {
-      all_is = one_more;
+    pub replayed_more : (all' : List (List ℤ)) (new : Trail') → Follows all c → all' ≡ all ++ c ∷ [] → new.vars ≡ trail.vars → AllDerived all' new.lits → Replayed cs log old all' new (i + 1)
+    replayed_more all' new f e v d = record {
+      all_is = e ∙ one_more;
       follows = follow_more f;
-      vars = nv ∙ v ∙ w.vars;
-      derived = line_derived cut new l g;
-      complete = q;
+      vars = v ∙ w.vars;
+      derived = d;
     }
 
     -- where a clause is false behind it, each further line follows
-    pub replayed_closed : (cut new : Trail') (k : ℕ) → Follows all c → cut.lits ≡ trail.lits → Grows (all ++ c ∷ []) cut new
-        → IsFalseAt (all ++ c ∷ []) new.lits k → EachFollows cs log
-    replayed_closed cut new k f l g closed j lt' =
-        let closes : Closes (all ++ c ∷ []) = false_closes (all ++ c ∷ []) new.lits (get_or (all ++ c ∷ []) k []) (Contains-get_or (all ++ c ∷ []) k [] closed.0) (line_derived cut new l g) closed.1 in
-        elim (cases_lt j (i + 1)) [
-          | inl low ↦ follow_more f j low
-          | inr high ↦ closes_follows (cs ++ take (i + 1) log) (cs ++ take j log) (get_or log j []) (more j high) (subst (λ z. Closes z) one_more closes)
-        ]
+    pub replayed_closed : Follows all c → Closes (all ++ c ∷ []) → EachFollows cs log
+    replayed_closed f closes j lt' = elim (cases_lt j (i + 1)) [
+      | inl low ↦ follow_more f j low
+      | inr high ↦ closes_follows (cs ++ take (i + 1) log) (cs ++ take j log) (get_or log j []) (more j high) (subst (λ z. Closes z) one_more closes)
+    ]
       where
         more : (j : ℕ) → i + 1 ≤ j → AreAmong (cs ++ take (i + 1) log) (cs ++ take j log)
         more j le d h = elim (Contains-append_cases cs (take (i + 1) log) d h) [
@@ -110,21 +79,50 @@ module _ (cs log : List (List ℤ)) (old : Trail') (all : List (List ℤ)) (trai
   pub replayed_all : length log ≤ i → EachFollows cs log
   replayed_all le j lt = w.follows j (omega arith)
 
--- the trail behind a line, cut back
-pub cut_back : (old new : Trail') (n : ℕ) → n ≡ length old.lits → Begins old new → take n new.lits ≡ old.lits
-cut_back old new n e b = ap (λ k. take k new.lits) e ∙ continues_take old.lits new.lits (b.more, b.lits)
-
 -- clauses that close already
 pub closed_follows : (cs log : List (List ℤ)) → Closes cs → EachFollows cs log
 closed_follows cs log r i lt = closes_follows cs (cs ++ take i log) (get_or log i []) (λ c h. Contains-append_left cs (take i log) c h) r
 
--- what propagation finds from nothing is derived
-pub from_nothing : (cs : List (List ℤ)) (s t : Trail') → Grows cs s t → s.lits ≡ [] → AllDerived cs t.lits
-from_nothing cs s t g e = grown_derived cs cs s t (λ c h. h) g (λ k h. absurd (Contains-nil k (subst (λ z. Contains z k) e h)))
+-- one more clause, and what stands is derived
+pub learned_derived : (cs : List (List ℤ)) (clause : List ℤ) (s t : Trail') → AllDerived cs s.lits → Grows (cs ++ clause ∷ []) s t → AllDerived (cs ++ clause ∷ []) t.lits
+learned_derived cs clause s t d g =
+    grown_derived (cs ++ clause ∷ []) (cs ++ clause ∷ []) s t (λ c h. h) g
+    (λ k h. derived_more cs (cs ++ clause ∷ []) (λ c j. Contains-append_left cs (clause ∷ []) c j) k (d k h))
 
--- and a clause that is false then closes
-pub nothing_closes : (cs : List (List ℤ)) (s t : Trail') (i : ℕ) → Grows cs s t → s.lits ≡ [] → i < length cs → AllFalse t.lits (get_or cs i []) → Closes cs
-nothing_closes cs s t i g e lt f = false_closes cs t.lits (get_or cs i []) (Contains-get_or cs i [] lt) (from_nothing cs s t g e) f
+-- a clause that is false on what is derived
+pub learned_closes : (cs : List (List ℤ)) (clause t : List ℤ) → AllDerived cs t → AllFalse t clause → Closes (cs ++ clause ∷ [])
+learned_closes cs clause t d f =
+    false_closes (cs ++ clause ∷ []) t clause (Contains-push cs clause) (λ k h. derived_more cs (cs ++ clause ∷ []) (λ c j. Contains-append_left cs (clause ∷ []) c j) k (d k h)) f
+
+-- a clause that propagation found false
+pub found_closes : (cs : List (List ℤ)) (s t : Trail') (i : ℕ) → AllDerived cs s.lits → Grows cs s t → IsFalseAt cs t.lits i → Closes cs
+found_closes cs s t i d g f =
+    false_closes cs t.lits (get_or cs i []) (Contains-get_or cs i [] f.0) (grown_derived cs cs s t (λ c h. h) g d) f.1
+
+-- among more clauses
+pub closes_among : (small big : List (List ℤ)) → AreAmong small big → Closes small → Closes big
+closes_among small big among r = (r.0, among r.0 r.1, λ k kin. derived_more small big among (opposite k) (r.2 k kin))
+
+pub learned_all : (cs all : List (List ℤ)) (clause : List ℤ) (s t : Trail') → AllDerived cs s.lits → all ≡ cs ++ clause ∷ [] → Grows all s t → AllDerived all t.lits
+learned_all cs all clause s t d e g = subst (λ z. AllDerived z t.lits) (sym e) (learned_derived cs clause s t d (subst (λ z. Grows z s t) e g))
+
+-- the first clauses of a list are loaded behind others
+pub loaded_more : (before cs all : List (List ℤ)) (i : ℕ) (clause : List ℤ) → i < length cs → clause ≡ get_or cs i [] → all ≡ before ++ take i cs
+    → all ++ clause ∷ [] ≡ before ++ take (i + 1) cs
+loaded_more before cs all i clause lt is e =
+    let line : take (i + 1) cs ≡ take i cs ++ clause ∷ [] = rw add-one (take-suc cs i [] lt ∙ ap (λ z. take i cs ++ z ∷ []) (sym is)) in
+    ap (λ z. z ++ clause ∷ []) e ∙ append_assoc before (take i cs) (clause ∷ []) ∙ ap (λ z. before ++ z) (sym line)
+
+pub loaded_among : (before cs : List (List ℤ)) (n : ℕ) → AreAmong (before ++ take n cs) (before ++ cs)
+loaded_among before cs n c h = elim (Contains-append_cases before (take n cs) c h) [
+  | inl a ↦ Contains-append_left before cs c a
+  | inr b ↦ Contains-append_right before cs c (Contains-take n cs c b)
+]
+
+-- more clauses
+pub closes_more : (cs more : List (List ℤ)) → Closes cs → Closes (cs ++ more)
+closes_more cs more r =
+    (r.0, Contains-append_left cs more r.0 r.1, λ k kin. derived_more cs (cs ++ more) (λ c h. Contains-append_left cs more c h) (opposite k) (r.2 k kin))
 
 -- a log whose last line is empty
 pub ends_from : (log : List (List ℤ)) (c : List ℤ) → 0 < length log → c ≡ get_or log (length log - 1) c → length c ≡ 0

@@ -1,39 +1,75 @@
-ghost use Rattle.std.specs.Prelude.{◌≡◌, ◌≤◌, ◌<◌, ◌^◌, ◌↔◌, ◌++◌, ℕ, ℤ, List, [], ◌∷◌, length, IfOk, OnOk, IsTrue, slice_index_or, take};
+ghost use Rattle.std.specs.Prelude.{◌≡◌, ◌≤◌, ◌<◌, ◌^◌, ◌↔◌, ◌++◌, ℕ, ℤ, List, [], ◌∷◌, length, IfOk, OnOk, IsTrue, slice_index_or, take, true, false};
 ghost use Rattle.rst_clause.specs.Literals.{AreLiterals, AreClauses};
-ghost use Rattle.rst_clause.specs.Propagation.{Follows, AllDerived};
-ghost use Rattle.rst_clause.specs.Passes.{Passes};
-ghost use Rattle.rst_clause.specs.Trails.{IsComplete};
-ghost use Rattle.rst_check.specs.Lines.{EachFollows, Begins};
+ghost use Rattle.rst_clause.specs.Propagation.{Follows, Closes, AllDerived};
+ghost use Rattle.rst_clause.specs.Passes.{Passes, clauses_of};
+ghost use Rattle.rst_watch.specs.Propagators.{IsSettled};
+ghost use Rattle.rst_check.specs.Lines.{EachFollows, IsLonger, IsBack};
 
+use crate::load::load;
 use crate::range::are_in_range;
-use rst_clause::{Clauses, IndexedClauses, Lit, Log, Trail, propagate};
+use rst_clause::{Clauses, Lit, Log};
 use rst_outside::NoMemory;
+use rst_watch::Propagator;
 use std::alloc::Global;
 
-// Whether the line follows by unit propagation from the clauses. What stands on the trail is what
-// they imply, all of it, and it still stands afterwards, below what the line added.
-fn follows(trail: &mut Trail, clauses: &IndexedClauses, line: &[Lit]) -> Result<bool, NoMemory>
-    requires few { trail.old.vars < 2 ^ 31 }
-    requires clauses_in_range { AreClauses trail.old.vars clauses.now }
-    requires in_range { AreLiterals trail.old.vars line.now }
-    requires implied { AllDerived clauses.now trail.old.lits }
-    requires complete { IsComplete trail.old.lits clauses.now }
-    ensures answer { IfOk result (λ yes. IsTrue yes ↔ Follows clauses.now line.now) }
-    ensures begins { OnOk result (Begins trail.old trail.new) }
+// Whether propagation contradicts the line: what stands is what the clauses imply, the opposites
+// of the line's literals are assumed, and propagation finds a false clause.
+fn contradicts(p: &mut Propagator, line: &[Lit]) -> Result<bool, NoMemory>
+    requires few { p.old.trail.vars < 2 ^ 31 }
+    requires in_range { AreLiterals p.old.trail.vars line.now }
+    requires implied { AllDerived p.old.clauses p.old.trail.lits }
+    ensures answer { IfOk result (λ yes. IsTrue yes ↔ Follows p.old.clauses line.now) }
+    ensures longer { OnOk result (IsLonger p.old p.new) }
 {
-    let floor = trail.len();
     for i in 0..line.len() {
         let lit = line[i];
-        if trail.has(lit) {
+        if p.has(lit) {
             return Ok(true);
         }
         let no = lit.opposite();
-        if !trail.has(no) {
-            trail.push(no, 0)?;
+        if !p.has(no) {
+            p.assume(no)?;
         }
     }
-    let found = propagate(trail, clauses, floor, clauses.len())?;
-    let _stand = trail.len();
+    let found = p.propagate()?;
+    match found {
+        Some(_) => Ok(true),
+        None => Ok(false),
+    }
+}
+
+// Whether the line follows by unit propagation from the clauses, on a level of its own. What
+// stands is what they imply, and it still stands afterwards.
+fn follows(p: &mut Propagator, line: &[Lit]) -> Result<bool, NoMemory>
+    requires few { p.old.trail.vars < 2 ^ 31 }
+    requires in_range { AreLiterals p.old.trail.vars line.now }
+    requires implied { AllDerived p.old.clauses p.old.trail.lits }
+    requires settled { IsSettled p.old }
+    ensures answer { IfOk result (λ yes. IsTrue yes ↔ Follows p.old.clauses line.now) }
+    ensures back { OnOk result (IsBack p.old p.new) }
+{
+    p.open()?;
+    let yes = contradicts(p, line)?;
+    p.back();
+    Ok(yes)
+}
+
+// Adds a line that follows, and what it implies. Whether a clause is false now.
+fn learns(p: &mut Propagator, line: &[Lit]) -> Result<bool, NoMemory>
+    requires in_range { AreLiterals p.old.trail.vars line.now }
+    requires root { p.old.floors ≡ [] }
+    requires implied { AllDerived p.old.clauses p.old.trail.lits }
+    ensures closes { IfOk result (λ yes. yes ≡ true → Closes (p.old.clauses ++ line.now ∷ [])) }
+    ensures clauses { IfOk result (λ yes. yes ≡ false → p.new.clauses ≡ p.old.clauses ++ line.now ∷ []) }
+    ensures implied { IfOk result (λ yes. yes ≡ false → AllDerived p.new.clauses p.new.trail.lits) }
+    ensures settled { IfOk result (λ yes. yes ≡ false → IsSettled p.new) }
+    ensures vars { OnOk result (p.new.trail.vars ≡ p.old.trail.vars) }
+    ensures root { p.new.floors ≡ [] }
+{
+    if p.learn(line)? {
+        return Ok(true);
+    }
+    let found = p.propagate()?;
     match found {
         Some(_) => Ok(true),
         None => Ok(false),
@@ -41,32 +77,43 @@ fn follows(trail: &mut Trail, clauses: &IndexedClauses, line: &[Lit]) -> Result<
 }
 
 // Whether each line of the log follows from the clauses and the earlier lines. They are added, and
-// what they imply to the trail, until a clause is false: then each further line follows.
-fn all_follow(trail: &mut Trail, clauses: &mut IndexedClauses, log: &Log) -> Result<bool, NoMemory>
-    requires few { trail.old.vars < 2 ^ 31 }
-    requires clauses_in_range { AreClauses trail.old.vars clauses.old }
-    requires in_range { AreClauses trail.old.vars log.now }
-    requires implied { AllDerived clauses.old trail.old.lits }
-    requires complete { IsComplete trail.old.lits clauses.old }
-    ensures { IfOk result (λ yes. IsTrue yes ↔ EachFollows clauses.old log.now) }
+// what they imply stands, until a clause is false: then each further line follows.
+fn all_follow(p: &mut Propagator, log: &Log) -> Result<bool, NoMemory>
+    requires few { p.old.trail.vars < 2 ^ 31 }
+    requires in_range { AreClauses p.old.trail.vars log.now }
+    requires root { p.old.floors ≡ [] }
+    requires implied { AllDerived p.old.clauses p.old.trail.lits }
+    requires settled { IsSettled p.old }
+    ensures { IfOk result (λ yes. IsTrue yes ↔ EachFollows p.old.clauses log.now) }
 {
     for i in 0..log.len() {
         let line = log.get(i);
-        let floor = trail.len();
-        let yes = follows(trail, clauses, line.as_slice())?;
-        if !yes {
+        if !follows(p, line.as_slice())? {
             return Ok(false);
         }
-        trail.truncate(floor);
-        let before = clauses.len();
-        clauses.push(line.as_slice())?;
-        let found = propagate(trail, clauses, floor, before)?;
-        match found {
-            Some(_) => return Ok(true),
-            None => {}
+        if learns(p, line.as_slice())? {
+            return Ok(true);
         }
     }
     Ok(true)
+}
+
+// Whether each line of the log follows from the clauses and the earlier lines, where nothing is
+// known yet.
+fn replay(p: &mut Propagator, clauses: &Clauses, log: &Log) -> Result<bool, NoMemory>
+    requires vars { p.old.trail.vars ≡ clauses.now.vars }
+    requires few { p.old.trail.vars < 2 ^ 31 }
+    requires in_range { AreClauses p.old.trail.vars log.now }
+    requires nothing { p.old.trail.lits ≡ [] }
+    requires none { p.old.clauses ≡ [] }
+    requires root { p.old.floors ≡ [] }
+    ensures { IfOk result (λ yes. IsTrue yes ↔ EachFollows (clauses_of clauses.now) log.now) }
+{
+    if load(p, clauses)? {
+        return Ok(true);
+    }
+    let yes = all_follow(p, log)?;
+    Ok(yes)
 }
 
 // Whether the last line is there and has no literal.
@@ -86,14 +133,7 @@ pub fn refutes(alloc: Global, clauses: &Clauses, log: &Log) -> Result<bool, NoMe
     if !ends_empty(log) || !are_in_range(clauses.vars, log) {
         return Ok(false);
     }
-    let mut all = clauses.all(alloc)?;
-    let mut trail = Trail::new(alloc, clauses.vars)?;
-    let found = propagate(&mut trail, &all, 0, 0)?;
-    match found {
-        Some(_) => Ok(true),
-        None => {
-            let yes = all_follow(&mut trail, &mut all, log)?;
-            Ok(yes)
-        }
-    }
+    let mut p = Propagator::new(alloc, clauses.vars)?;
+    let yes = replay(&mut p, clauses, log)?;
+    Ok(yes)
 }

@@ -2,6 +2,7 @@
 #![tactic(auto)]
 
 mod check;
+mod load;
 mod range;
 
 pub use check::refutes;

@@ -9,21 +9,17 @@ mod gate_clauses;
 mod indexed;
 mod laws;
 mod lit;
-mod log;
 mod propagation;
 mod status;
 mod store;
-#[cfg(test)]
-mod tests;
 mod trail;
 
-pub use clause::Clause;
+pub use clause::{Clause, Log};
 pub use clause_domain::ClauseDomain;
 pub use clauses::Clauses;
 pub use indexed::IndexedClauses;
 pub use laws::{disjoint_paths_are_few, one_extension, refutations_refute};
 pub use lit::Lit;
-pub use log::Log;
 pub use propagation::propagate;
 pub use status::{Status, status_of};
 pub use store::ClauseStore;

@@ -92,12 +92,13 @@ impl Trail {
         self.lits[i]
     }
 
-    /// One more literal stands, by the clause of this number.
+    /// One more literal stands, by the clause of this number; after NoMemory all is as before.
     pub fn push(&mut self, lit: Lit, reason: usize) -> Result<(), NoMemory>
         requires in_range { unsigned_abs lit ≤ self.old.vars }
         requires not_there { Contains self.old.lits lit → ⊥ }
         requires not_opposite { Contains self.old.lits (opposite lit) → ⊥ }
         ensures ok { OnOk result (self.new ≡ pushed self.old lit reason) }
+        ensures err { OnErr result (self.new ≡ self.old) }
         ensures slot { unsigned_abs lit < length self.old.reasons }
         ensures consistent { OnOk result (IsConsistent self.new.lits) }
     {

@@ -1,5 +1,5 @@
 //! Tests of the front end's public calls, named by what they show: tokens, heights of trees, equal ranges, the readers, the parser,
-//! and widths.
+//! widths, and what operators give.
 #![tactic(auto)]
 
 #[cfg(test)]
@@ -22,3 +22,5 @@ mod tokens;
 mod width_contexts;
 #[cfg(test)]
 mod widths;
+#[cfg(test)]
+mod words;

@@ -1,6 +1,6 @@
 // Patterns of inputs, their fillings, and runs in which free bits are X.
 use crate::circuits::both_inputs;
-use rst_gate::{Bits, Cube, Pattern};
+use rst_gate::{Bits, Cube, Pattern, filled, free_places, known_pattern};
 use rst_sim::tern_run_free;
 use rst_value::Tern;
 use std::test::Fail;
@@ -15,9 +15,9 @@ fn free_bits_are_taken_cycle_by_cycle(rt: HostRuntime) -> Result<(), Fail> {
     pattern.push(Cube::from_slice(alloc, &[Unknown, Zero])?)?;
     pattern.push(Cube::from_slice(alloc, &[One, Unknown])?)?;
     assert_eq!(rt; pattern.len(), 2);
-    assert_eq!(rt; pattern.get(0).free_places(), 1);
+    assert_eq!(rt; free_places(pattern.get(0)), 1);
     for (first, second) in [(false, false), (false, true), (true, false), (true, true)] {
-        let word = pattern.filled(alloc, &[first, second])?;
+        let word = filled(alloc, &pattern, &[first, second])?;
         assert_eq!(rt; word.len(), 2);
         assert_eq!(rt; word.get(0).as_slice(), [first, false].as_slice());
         assert_eq!(rt; word.get(1).as_slice(), [true, second].as_slice());
@@ -29,10 +29,9 @@ fn free_bits_are_taken_cycle_by_cycle(rt: HostRuntime) -> Result<(), Fail> {
 fn a_word_is_the_pattern_without_free_bits(rt: HostRuntime) -> Result<(), Fail> {
     let alloc = rt.alloc();
     let word = vec![in alloc; Bits::from_slice(alloc, &[true, false])?]?;
-    let pattern = Pattern::from_word(alloc, word.as_slice())?;
-    let copy = Pattern::from_slice(alloc, pattern.as_slice())?;
-    assert_eq!(rt; copy.get(0).as_slice(), [Tern::One, Tern::Zero].as_slice());
-    let filling = copy.filled(alloc, &[])?;
+    let pattern = known_pattern(alloc, word.as_slice())?;
+    assert_eq!(rt; pattern.get(0).as_slice(), [Tern::One, Tern::Zero].as_slice());
+    let filling = filled(alloc, &pattern, &[])?;
     assert_eq!(rt; filling.get(0).as_slice(), [true, false].as_slice());
     Ok(())
 }

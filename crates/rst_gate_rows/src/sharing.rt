@@ -1,5 +1,5 @@
 // Gates under construction: what is folded, what is shared, and what is neither.
-ghost use Rattle.std.specs.Prelude.{◌≡◌, []};
+ghost use Rattle.std.specs.Prelude.{◌≡◌, [], IfOk};
 
 use crate::circuits::plain;
 use rst_gate::{Edge, Gate, GateBuilder};
@@ -64,6 +64,20 @@ fn equal_operands(builder: &mut GateBuilder) -> Result<[Edge; 3], NoMemory>
     Ok([both, differ, chosen])
 }
 
+// The edge of a gate, and the edge of the same gate asked for again behind another one, which may have been refused for want of
+// memory: a refusal leaves the gates, and so the edges, that stand.
+#[tactic(auto, unfolding(rst_gate::specs::SharedGates::asked_and, rst_gate::specs::SharedGates::asked_xor, rst_gate::specs::SharedGates::shared))]
+fn asked_again(builder: &mut GateBuilder) -> Result<(Edge, Edge), NoMemory>
+    requires { builder.old ≡ record { inputs = 2; states = 0; gates = [] } }
+    ensures states { builder.new.states ≡ 0 }
+    ensures same { IfOk result (λ edges. edges.0 ≡ edges.1) }
+{
+    let before = builder.and(plain(1), plain(2))?;
+    let _ = builder.xor(plain(1), plain(2));
+    let behind = builder.and(plain(1), plain(2))?;
+    Ok((before, behind))
+}
+
 #[test]
 fn operands_in_either_order_are_one_gate(rt: HostRuntime) -> Result<(), Fail> {
     let alloc = rt.alloc();
@@ -122,5 +136,15 @@ fn equal_operands_make_a_gate(rt: HostRuntime) -> Result<(), Fail> {
     let edges = equal_operands(&mut builder)?;
     drop(builder);
     assert_eq!(rt; edges.as_slice(), [plain(3), plain(4), plain(5)].as_slice());
+    Ok(())
+}
+
+#[test]
+fn a_refusal_leaves_earlier_edges(rt: HostRuntime) -> Result<(), Fail> {
+    let mut builder = GateBuilder::new(rt.alloc(), 2, 0)?;
+    let (before, behind) = asked_again(&mut builder)?;
+    drop(builder);
+    assert_eq!(rt; before, plain(3));
+    assert_eq!(rt; behind, plain(3));
     Ok(())
 }

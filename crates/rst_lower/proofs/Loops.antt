@@ -1,5 +1,5 @@
 -- Steps of the loops over bits and parts, and what a table of words reads.
-use Rattle.std.proofs.Common.{◌≡◌, ℕ, zero, suc, ◌+◌, ◌-◌, ◌/◌, ◌%◌, ◌<◌, List, [], ◌∷◌, ◌++◌, length, map, take, drop, get_or, eqb, arith, refl, sym, ap, ◌∙◌, append_assoc, add-one}
+use Rattle.std.proofs.Common.{◌≡◌, ℕ, zero, suc, ◌+◌, ◌-◌, ◌/◌, ◌%◌, ◌<◌, List, [], ◌∷◌, ◌++◌, length, map, take, drop, get_or, set, eqb, arith, refl, sym, ap, ◌∙◌, append_assoc, add-one}
 use Rattle.std.specs.declared.vec.Vec.{Vec}
 use Rattle.std.specs.declared.alloc.Global.{Global}
 use Rattle.std.proofs.lemmas.List.{length-map, map-append, append-nil}
@@ -22,6 +22,11 @@ words_read (v ∷ vs) (suc i) d h = words_read vs i d (omega arith)
 
 pub words_push : (vs : List (Vec Edge Global)) (v : Vec Edge Global) → map (λ (v : Vec Edge Global). v.items) (vs ++ v ∷ []) ≡ map (λ (v : Vec Edge Global). v.items) vs ++ v.items ∷ []
 words_push vs v = map-append (λ (v : Vec Edge Global). v.items) vs (v ∷ [])
+
+pub words_set : (vs : List (Vec Edge Global)) (i : ℕ) (v : Vec Edge Global) → map (λ (v : Vec Edge Global). v.items) (set vs i v) ≡ set (map (λ (v : Vec Edge Global). v.items) vs) i v.items
+words_set [] i v = refl
+words_set (w ∷ vs) zero v = refl
+words_set (w ∷ vs) (suc i) v = let rest = words_set vs i v in λ k. w.items ∷ rest k
 
 -- the bits from a place on
 pub range_take : {X : Type 0} (xs : List X) (a n : ℕ) → take (a + n - a) (drop a xs) ≡ take n (drop a xs)

@@ -1,5 +1,5 @@
 // The edges of the signals' bits.
-ghost use Rattle.std.specs.Prelude.{◌≡◌, ◌+◌, ◌<◌, [], ◌∷◌, ◌++◌, length, IfOk};
+ghost use Rattle.std.specs.Prelude.{◌≡◌, ◌+◌, ◌<◌, [], ◌∷◌, ◌++◌, length, slice_set, IfOk};
 ghost use Rattle.rst_lower.specs.WireWords.{word_of};
 
 use rst_gate::Edge;
@@ -50,5 +50,22 @@ impl Wires {
         ensures { result.now ≡ word_of self.now signal }
     {
         self.words[signal as usize].as_slice()
+    }
+
+    /// How many signals there are.
+    #[tactic(auto, using(crate::proofs::Loops::words_length))]
+    pub fn len(&self) -> usize
+        ensures { result ≡ length self.now }
+    {
+        self.words.len()
+    }
+
+    /// A signal's edges in place of those that it had.
+    #[tactic(auto, using(crate::proofs::Loops::words_length, crate::proofs::Loops::words_set))]
+    pub fn replace(&mut self, signal: u32, word: Vec<Edge>)
+        requires { signal < length self.old }
+        ensures { self.new ≡ slice_set self.old signal word.items }
+    {
+        self.words[signal as usize] = word;
     }
 }

@@ -4,4 +4,12 @@
 #[cfg(test)]
 mod bench;
 #[cfg(test)]
-mod check;
+mod decided;
+#[cfg(test)]
+mod faults;
+#[cfg(test)]
+mod known;
+#[cfg(test)]
+mod refused;
+#[cfg(test)]
+mod sources;

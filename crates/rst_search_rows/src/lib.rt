@@ -1,6 +1,10 @@
-//! Rows of the solver and of the checker of logs: small queries whose answers are written out.
+//! Rows of the clauses of gates, the finder, the solver and the checker of logs: small queries whose answers are written out.
 #![tactic(auto)]
 
+#[cfg(test)]
+mod finding;
+#[cfg(test)]
+mod numbering;
 #[cfg(test)]
 mod refuting;
 #[cfg(test)]

@@ -3,6 +3,7 @@
 use rst_check::refutes;
 use rst_clause::{Clause, ClauseDomain, Clauses, Lit, Log};
 use rst_outside::NoMemory;
+use rst_query_text::read;
 use rst_value::Domain;
 use std::alloc::Global;
 use std::test::Fail;
@@ -59,6 +60,44 @@ fn logs_refute_or_not(rt: HostRuntime) -> Result<(), Fail> {
     for (i, (both, numbers, ends, want)) in rows.iter().enumerate() {
         let yes = verdict(rt.alloc(), *both, numbers, *ends)?;
         assert_eq!(rt; yes, *want, "row {i}");
+    }
+    Ok(())
+}
+
+// A log of lines of up to two literals each; a number 0 stands for no literal.
+fn log_of_lines(alloc: Global, lines: &[[i32; 2]]) -> Result<Log, NoMemory> {
+    let mut log = Log::new(alloc);
+    for numbers in lines {
+        let mut line = Clause::new(alloc);
+        for number in numbers {
+            if *number != 0 {
+                line.push(Lit::new(*number))?;
+            }
+        }
+        log.push(line)?;
+    }
+    Ok(log)
+}
+
+// All four clauses of the two free bits, one of them with a literal twice.
+#[test]
+fn lines_with_opposites_and_repeats(rt: HostRuntime) -> Result<(), Fail> {
+    let alloc = rt.alloc();
+    let text = b"free 2\nrequire 1 2 2\nrequire 1 -2\nrequire -1 2\nrequire -1 -2\n";
+    let clauses = read(alloc, text)?;
+    let rows = [
+        ([[1, 0], [0, 0]], true),
+        ([[1, 1], [0, 0]], true),
+        ([[1, 2], [0, 0]], false),
+        ([[1, -1], [0, 0]], false),
+        ([[-2, 0], [0, 0]], true),
+        ([[0, 0], [0, 0]], false),
+        ([[1, 2147483647], [0, 0]], false),
+        ([[1, -2147483648], [0, 0]], false),
+    ];
+    for (i, (lines, want)) in rows.iter().enumerate() {
+        let log = log_of_lines(alloc, lines)?;
+        assert_eq!(rt; refutes(alloc, &clauses, &log)?, *want, "row {i}");
     }
     Ok(())
 }

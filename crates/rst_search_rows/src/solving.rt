@@ -107,7 +107,7 @@ fn has_true_bit(alloc: Global, clauses: &Clauses) -> Result<Option<bool>, NoMemo
 
 #[test]
 fn one_clause_of_many_bits_has_a_model(rt: HostRuntime) -> Result<(), Fail> {
-    for free in [512u32, 2_048] {
+    for free in [512u32, 2_048, 33_792] {
         let clauses = one_of_all(rt.alloc(), free)?;
         assert_eq!(rt;
             has_true_bit(rt.alloc(), &clauses)?,

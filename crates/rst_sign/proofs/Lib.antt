@@ -1,9 +1,7 @@
 pub mod Prefix
-pub mod Places
-pub mod Ports
-pub mod Lengths
-pub mod Stops
-pub mod Deciding
+pub mod Saving
+pub mod Codes
+pub mod Endings
+pub mod Reading
 pub mod Acting
-pub mod OneDue
 pub mod Promises

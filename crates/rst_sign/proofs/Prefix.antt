@@ -1,4 +1,4 @@
--- What is put whole is put as a prefix.
+-- What is put whole is put as a prefix, and so is nothing.
 use Rattle.std.proofs.Common.{List, ℕ, length, Option}
 use Rattle.std.proofs.Math.Seq.{take-length}
 use Rattle.std.specs.Io.KnownBytes.{Appends}

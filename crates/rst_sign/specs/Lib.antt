@@ -1,7 +1,3 @@
-pub mod Words
-pub mod Answer
-pub mod Loads
-pub mod Checks
-pub mod Due
-pub mod Steps
+-- What a reader has to believe: both, but for `HasGates`, `Runs` and `Answers`, which are words of the proofs.
 pub mod Run
+pub mod Promises

@@ -1,16 +1,19 @@
--- What a run does to the outside, whatever its command. All but `IsDue` is the same for every command.
-use Rattle.std.specs.Prelude.{◌≡◌, ◌≢◌, ◌⊎◌, ℕ, List, Option, IfSome, IfNone, IsNone, IsSome}
+-- What a run does to the outside, whatever its command.
+use Rattle.std.specs.Prelude.{◌≡◌, ◌≢◌, ◌⊎◌, ℕ, List, [], Option, Some, None, IfSome, IfNone, IsNone, IsSome, Err}
+use Rattle.std.specs.List.{Contains}
 use Rattle.std.specs.Io.KnownBytes.{Appends}
 use Rattle.rst_outside.specs.declared.desk.DeskFile.{DeskFile}
 use Rattle.rst_outside.specs.Causes.{Rose, AppendsPrefix}
 use Rattle.rst_outside.specs.Files.{IsHeldUnder, ChangesOnly}
-use Rattle.rst_sign.specs.declared.answer.Status.TheVariants.{WriteFault, NoMemory}
-use Rattle.rst_sign.specs.declared.answer.Outcome.{Outcome}
-use Rattle.rst_sign.specs.declared.answer.Due.{Due}
-use Rattle.rst_sign.specs.Answer.{no_memory, Carries}
-use Rattle.rst_sign.specs.Words.{cert_name, command_of, IsLoaded}
-use Rattle.rst_sign.specs.Due.{IsDue, usage_due}
-use Rattle.rst_sign.specs.declared.answer.Answer.TheVariants.{NoCommand}
+use Rattle.rst_command.specs.Commands.{Command, Check, Known, Demo, command_of}
+use Rattle.rst_answer.specs.declared.answer.Status.TheVariants.{WriteFault, NoMemory}
+use Rattle.rst_answer.specs.declared.answer.Outcome.{Outcome}
+use Rattle.rst_answer.specs.declared.answer.Answer.TheVariants.{NoCommand}
+use Rattle.rst_answer.specs.Answers.{Due, no_memory, usage_due, Carries}
+use Rattle.rst_question.specs.Questions.{Question, netlist}
+use Rattle.rst_replies.specs.Replies.{HasOrderedGates}
+use Rattle.rst_due.specs.Due.{CommandRuns, IsDue}
+use Rattle.rst_due.specs.Asked.{CommandAsks, loaded}
 
 -- the desk and the sink: the files and the bytes that they tell, and their counts of faults
 pub record Outside : Type 0 where
@@ -19,6 +22,25 @@ pub record Outside : Type 0 where
   pub save_faults : ℕ
   pub taken : Option (List ℕ)
   pub put_faults : ℕ
+
+-- the name under which a command saves its certificate: CERT of `check`; no other command saves one
+abbrev pub saved_under : Command → List ℕ
+saved_under (Check input cert) = cert
+saved_under (Known input) = []
+saved_under (Demo stages) = []
+
+abbrev pub name_in : Option Command → List ℕ
+name_in None = []
+name_in (Some command) = saved_under command
+
+abbrev pub cert_name : List (List ℕ) → List ℕ
+cert_name words = name_in (command_of words)
+
+-- the words spell a command that loads the word at this place
+pub record IsLoaded (words : List (List ℕ)) (place : ℕ) : Type 0 where
+  pub command : Command
+  pub spelled : command_of words ≡ Some command
+  pub loads : Contains (loaded command) place
 
 -- how a due answer is written: the certificate is saved under its name, and then the text is put
 pub record Writes (name : List ℕ) (due : Due) (old new : Outside) (outcome : Outcome) : Type 0 where
@@ -37,13 +59,38 @@ pub record Writes (name : List ℕ) (due : Due) (old new : Outside) (outcome : O
   pub others : ChangesOnly name old.files new.files
   pub kept : IfNone due.cert (new.files ≡ old.files)
 
+-- the design of each question that the command asks has gates that read earlier nodes only
+abbrev pub HasGates : List (List ℕ) → List DeskFile → Option ℕ → Command → Type 0
+HasGates words files failed command = (q : Question) → CommandAsks words files failed command q → HasOrderedGates (netlist q)
+
+-- a run of a command that found memory
+pub record Runs (words : List (List ℕ)) (command : Command) (old new : Outside) (outcome : Outcome) : Type 0 where
+  pub due : Due
+  pub writes : Writes (saved_under command) due old new outcome
+  pub runs : IfSome old.files (λ files. CommandRuns words files outcome.unread command (Err due))
+  pub gates : IfSome old.files (λ files. HasGates words files outcome.unread command)
+  pub some : due.answer ≢ NoCommand
+  pub unread : IfSome outcome.unread (λ place. Contains (loaded command) place × Rose old.load_faults new.load_faults)
+
+-- nothing is put or saved
+pub record IsUntouched (old new : Outside) : Type 0 where
+  pub taken : new.taken ≡ old.taken
+  pub files : new.files ≡ old.files
+
+-- something is due, and the run writes it
+pub record Answers (words : List (List ℕ)) (old new : Outside) (outcome : Outcome) : Type 0 where
+  pub due : Due
+  pub writes : Writes (cert_name words) due old new outcome
+  pub is : IfSome old.files (λ files. IsDue words files outcome.unread due)
+  pub gates : IfSome old.files (λ files. (command : Command) → command_of words ≡ Some command → HasGates words files outcome.unread command)
+  -- the usage line is due of words that spell no command, and of no others
+  pub usage : IsNone (command_of words) → due ≡ usage_due
+  pub none : due.answer ≡ NoCommand → IsNone (command_of words)
+
 -- a run
 pub record IsRun (words : List (List ℕ)) (old new : Outside) (outcome : Outcome) : Type 0 where
-  -- unless memory ran out, something is due, and the run writes it
-  pub due : outcome ≡ no_memory ⊎ ((due : Due) × Writes (cert_name words) due old new outcome
-      × IfSome old.files (λ files. IsDue words files outcome.unread due)
-      × (IsNone (command_of words) → due ≡ usage_due) × (due.answer ≡ NoCommand → IsNone (command_of words)))
+  pub due : (outcome ≡ no_memory) ⊎ Answers words old new outcome
   -- a load that is said to have failed is one of the command's, and is counted
   pub unread : IfSome outcome.unread (λ place. IsLoaded words place × Rose old.load_faults new.load_faults)
   -- where memory ran out, the words spell a command, and nothing is put or saved
-  pub nothing : outcome.status ≡ NoMemory → IsSome (command_of words) × (new.taken ≡ old.taken) × (new.files ≡ old.files)
+  pub nothing : outcome.status ≡ NoMemory → IsSome (command_of words) × IsUntouched old new

@@ -1,18 +1,20 @@
-// Laws of the due answer.
-ghost use Rattle.std.specs.Prelude.{◌≡◌, ℕ, List};
-ghost use Rattle.std.specs.declared.option.Option.{Option};
-ghost use Rattle.rst_outside.specs.declared.desk.DeskFile.{DeskFile};
-ghost use Rattle.rst_sign.specs.declared.answer.Due.{Due as Due_};
-ghost use Rattle.rst_sign.specs.Due.{IsDue};
+//! What three-valued simulation knows, over the definitions alone.
+ghost use Rattle.std.specs.Prelude.{List, ℕ, Ok};
+ghost use Rattle.rst_tree.specs.Trees.{Text};
+ghost use Rattle.rst_question.specs.declared.question.Places.{Places as Places_};
+ghost use Rattle.rst_question.specs.Questions.{Question, QuestionGives, netlist};
+ghost use Rattle.rst_replies.specs.Replies.{Knows, HasOrderedGates};
+ghost use Rattle.rst_sign.specs.Promises.{Resets};
 
-use rst_small_script::laws::one_script;
-use rst_small_source::laws::one_source;
+use rst_source_machine::laws::{gates_are_sources, patterns_of_gates, sources_are_machines};
 
-/// At most one answer is due of words, files and the place of the word whose load failed, if one did.
-pub fn one_due()
-    ensures { (words : List (List ℕ)) (files : List DeskFile) (failed : Option ℕ) (a b : Due_)
-        → IsDue words files failed a → IsDue words files failed b → a ≡ b }
+/// The pattern of a question that texts ask is an essential reset sequence of the design that they spell, however its free bits are
+/// filled, where three-valued simulation of the design knows every register behind it. The design's gates read earlier nodes only.
+pub fn known_patterns_reset()
+    ensures { (places : Places_) (top script : Text) (sources : List Text) (q : Question) → QuestionGives places top script sources (Ok q)
+        → HasOrderedGates (netlist q) → Knows q → Resets q.flat q.pattern }
 {
-    one_script();
-    one_source();
+    sources_are_machines();
+    gates_are_sources();
+    patterns_of_gates();
 }

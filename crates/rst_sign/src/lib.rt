@@ -1,16 +1,11 @@
-//! Decides a reset sequence, and says so on a sink and in a certificate.
+//! The tool: runs the command that the words spell, over a desk that holds the files and a sink that takes the text.
 #![tactic(auto)]
 
-mod answer;
-mod check;
 mod deliver;
-mod laws;
-mod loads;
-mod texts;
+pub mod laws;
 mod top;
-mod words;
 
-pub use answer::{Answer, Code, Due, Outcome, Reject, Status};
-pub use laws::one_due;
-pub use rst_cert::Verdict;
+pub use rst_answer::{Answer, Outcome, Status};
+pub use rst_reject::{Code, Reject};
+pub use rst_verdict::Verdict;
 pub use top::run;

@@ -6,7 +6,7 @@ ghost use Rattle.rst_gate.specs.GateMachines.{machine_of, terns_of};
 ghost use Rattle.rst_sim.specs.Trails.{pattern_trail, tern_trail};
 
 use crate::cycle::{tern_cycle, two_cycle};
-use rst_gate::{Bits, Cube, Gates, Pattern, Sequence};
+use rst_gate::{Bits, Cube, Gates, Pattern, Sequence, known_pattern};
 use rst_outside::NoMemory;
 use std::alloc::Global;
 
@@ -98,6 +98,6 @@ pub fn tern_run(
     ensures count { IfOk result (λ t. length t.states.items ≡ length inputs.now + 1) }
     ensures last { IfOk result (λ t. slice_get t.states.items (length inputs.now) ≡ Some (tern_after (terns_of gates.now) start.now inputs.now)) }
 {
-    let pattern = Pattern::from_word(alloc, inputs.as_slice())?;
+    let pattern = known_pattern(alloc, inputs.as_slice())?;
     tern_run_free(alloc, gates, start, &pattern)
 }

@@ -5,8 +5,6 @@ mod arithmetic;
 pub mod laws;
 mod operators;
 mod ops;
-#[cfg(test)]
-mod tests;
 mod word;
 
 pub use ops::{BinaryOp, UnaryOp};

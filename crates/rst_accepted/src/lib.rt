@@ -1,0 +1,4 @@
+//! What holds of every design that elaboration accepts.
+#![tactic(auto)]
+
+pub mod laws;

@@ -1,0 +1,9 @@
+pub mod Lists
+pub mod Bits
+pub mod Counts
+pub mod Numbers
+pub mod Targets
+pub mod Declared
+pub mod Ports
+pub mod Origins
+pub mod Roles

@@ -1,0 +1,12 @@
+pub mod Lists
+pub mod Reached
+pub mod Declared
+pub mod Words
+pub mod Scopes
+pub mod Signals
+pub mod Seen
+pub mod Sets
+pub mod Links
+pub mod Blocks
+pub mod Items
+pub mod Designs

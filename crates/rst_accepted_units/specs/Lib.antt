@@ -1,0 +1,1 @@
+-- Nothing of its own: the laws speak of accepted designs by the definitions of lower crates.

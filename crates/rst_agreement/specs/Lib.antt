@@ -1,0 +1,2 @@
+-- The condition of the law.
+pub mod Fits

@@ -1,0 +1,10 @@
+pub mod Fronts
+pub mod Numbers
+pub mod Binds
+pub mod WordLaws
+pub mod DigitLaws
+pub mod NumberLaws
+pub mod LineLaws
+pub mod ClauseLaws
+pub mod HopLaws
+pub mod EntryLaws

@@ -1,0 +1,5 @@
+-- To be believed: Headings, Sections and Readings, what is read of a text line by line, and so where its first fault is. That what is
+-- read is written so is a law.
+pub mod Headings
+pub mod Sections
+pub mod Readings

@@ -1,0 +1,218 @@
+// What is due in a certificate.
+ghost use Rattle.std.specs.Prelude.{◌≡◌, IfOk};
+ghost use Rattle.rst_cert_reader.specs.declared.gathered.Gathered.{Gathered};
+ghost use Rattle.rst_cert_reader.specs.Headings.{with_line};
+ghost use Rattle.rst_cert_reader.specs.Sections.{with_item, begun_by};
+ghost use Rattle.rst_cert_reader.specs.Readings.{first_section, stage_behind, stage_behind_head, stage_with, told, with_head, with_begun, with_more, taken};
+
+use crate::gathered::Gathered;
+use crate::heading::{CertKind, HeadLine, Heading};
+use crate::section::Section;
+use rst_cert_lines::LineFault;
+use rst_outside::NoMemory;
+use std::alloc::Global;
+
+/// What is due, or the fault that came first.
+#[derive(Clone, Copy, Debug, PartialEq, Eq)]
+pub enum Stage {
+    /// A line of the header.
+    Head(HeadLine),
+    /// The first line of a section.
+    Begin(Section),
+    /// So many lines of a section.
+    Items(Section, u64),
+    /// The line `end`.
+    End,
+    /// Nothing.
+    Closed,
+    /// The header was at fault.
+    BadHead,
+    /// The line of this number was the first at fault.
+    Bad(u32),
+}
+
+fn first_section(kind: CertKind) -> Section
+    ensures { result ≡ first_section kind }
+{
+    match kind {
+        CertKind::Known | CertKind::Relation => Section::FreeSteps,
+        CertKind::Refuted | CertKind::Alignable => Section::Steps,
+        CertKind::Never => Section::StateA,
+        CertKind::Unknown => Section::Equal,
+    }
+}
+
+fn behind_in_relation(section: Section) -> Stage
+    ensures { result ≡ stage_behind CertKind.Relation section }
+{
+    match section {
+        Section::FreeSteps => Stage::Begin(Section::Equal),
+        Section::Equal => Stage::Begin(Section::Blocked),
+        Section::Blocked => Stage::Begin(Section::SplitLog),
+        Section::SplitLog => Stage::Begin(Section::LandLog),
+        _ => Stage::End,
+    }
+}
+
+fn behind_in_refuted(section: Section) -> Stage
+    ensures { result ≡ stage_behind CertKind.Refuted section }
+{
+    match section {
+        Section::Steps => Stage::Begin(Section::StateA),
+        Section::StateA => Stage::Begin(Section::StateB),
+        Section::StateB => Stage::Begin(Section::Word),
+        _ => Stage::End,
+    }
+}
+
+fn behind_in_never(section: Section) -> Stage
+    ensures { result ≡ stage_behind CertKind.Never section }
+{
+    match section {
+        Section::StateA => Stage::Begin(Section::StateB),
+        Section::StateB => Stage::Begin(Section::Blocked),
+        Section::Blocked => Stage::Begin(Section::Freed),
+        Section::Freed => Stage::Begin(Section::EscapeLog),
+        _ => Stage::End,
+    }
+}
+
+fn behind_in_alignable(section: Section) -> Stage
+    ensures { result ≡ stage_behind CertKind.Alignable section }
+{
+    match section {
+        Section::Steps => Stage::Begin(Section::StateA),
+        Section::StateA => Stage::Begin(Section::StateB),
+        Section::StateB => Stage::Begin(Section::Word),
+        Section::Word => Stage::Begin(Section::Blocked),
+        Section::Blocked => Stage::Begin(Section::Freed),
+        Section::Freed => Stage::Begin(Section::SplitLog),
+        Section::SplitLog => Stage::Begin(Section::StuckLog),
+        _ => Stage::End,
+    }
+}
+
+fn behind_in_unknown(section: Section) -> Stage
+    ensures { result ≡ stage_behind CertKind.Unknown section }
+{
+    match section {
+        Section::Equal => Stage::Begin(Section::Journal),
+        _ => Stage::End,
+    }
+}
+
+// What is due behind a section.
+fn stage_behind(kind: CertKind, section: Section) -> Stage
+    ensures { result ≡ stage_behind kind section }
+{
+    match kind {
+        CertKind::Known => Stage::End,
+        CertKind::Relation => behind_in_relation(section),
+        CertKind::Refuted => behind_in_refuted(section),
+        CertKind::Never => behind_in_never(section),
+        CertKind::Alignable => behind_in_alignable(section),
+        CertKind::Unknown => behind_in_unknown(section),
+    }
+}
+
+/// What is due behind a line of the header.
+pub(crate) fn stage_behind_head(due: HeadLine, kind: CertKind) -> Stage
+    ensures { result ≡ stage_behind_head due kind }
+{
+    match due {
+        HeadLine::Version => Stage::Head(HeadLine::Form),
+        HeadLine::Form => Stage::Head(HeadLine::Clock),
+        HeadLine::Clock => Stage::Head(HeadLine::Registers),
+        HeadLine::Registers => Stage::Head(HeadLine::Inputs),
+        HeadLine::Inputs => Stage::Head(HeadLine::Outputs),
+        HeadLine::Outputs => Stage::Head(HeadLine::Kind),
+        HeadLine::Kind => Stage::Begin(first_section(kind)),
+    }
+}
+
+/// What is due where so many lines of a section are left.
+pub(crate) fn stage_with(kind: CertKind, section: Section, left: u64) -> Stage
+    ensures { result ≡ stage_with kind section left }
+{
+    if left == 0 {
+        stage_behind(kind, section)
+    } else {
+        Stage::Items(section, left)
+    }
+}
+
+#[tactic(auto, using(crate::proofs::Stages::told_head))]
+fn take_head(
+    alloc: Global,
+    heading: &mut Heading,
+    due: HeadLine,
+    line: &[u8],
+) -> Result<Stage, NoMemory>
+    ensures { IfOk result (λ next. (gathered : Gathered) → told heading.new gathered next ≡ with_head due gathered (with_line due heading.old line.now)) }
+{
+    match heading.read(alloc, due, line) {
+        Ok(()) => Ok(stage_behind_head(due, heading.kind)),
+        Err(LineFault::Wrong) => Ok(Stage::BadHead),
+        Err(LineFault::NoMemory) => Err(NoMemory),
+    }
+}
+
+#[tactic(auto, using(crate::proofs::Stages::told_with))]
+fn take_first(
+    alloc: Global,
+    heading: &Heading,
+    gathered: &mut Gathered,
+    section: Section,
+    number: u32,
+    line: &[u8],
+) -> Result<Stage, NoMemory>
+    ensures { IfOk result (λ next. told heading.now gathered.new next ≡ with_begun heading.now section number (begun_by heading.now section gathered.old line.now)) }
+{
+    match gathered.read_first_line(alloc, heading, section, line) {
+        Ok(count) => Ok(stage_with(heading.kind, section, count)),
+        Err(LineFault::Wrong) => Ok(Stage::Bad(number)),
+        Err(LineFault::NoMemory) => Err(NoMemory),
+    }
+}
+
+#[tactic(auto, using(crate::proofs::Stages::told_with))]
+fn take_item(
+    alloc: Global,
+    heading: &Heading,
+    gathered: &mut Gathered,
+    section: Section,
+    left: u64,
+    number: u32,
+    line: &[u8],
+) -> Result<Stage, NoMemory>
+    ensures { IfOk result (λ next. told heading.now gathered.new next ≡ with_more heading.now section left number (with_item heading.now section gathered.old line.now)) }
+{
+    match gathered.read_item(alloc, heading, section, line) {
+        Ok(()) => Ok(stage_with(heading.kind, section, left.saturating_sub(1))),
+        Err(LineFault::Wrong) => Ok(Stage::Bad(number)),
+        Err(LineFault::NoMemory) => Err(NoMemory),
+    }
+}
+
+/// Reads the line of this number, and answers what is due behind it.
+pub(crate) fn take(
+    alloc: Global,
+    heading: &mut Heading,
+    gathered: &mut Gathered,
+    stage: Stage,
+    number: u32,
+    line: &[u8],
+) -> Result<Stage, NoMemory>
+    ensures { IfOk result (λ next. told heading.new gathered.new next ≡ taken heading.old gathered.old stage number line.now) }
+{
+    match stage {
+        Stage::Head(due) => take_head(alloc, heading, due, line),
+        Stage::Begin(section) => take_first(alloc, heading, gathered, section, number, line),
+        Stage::Items(section, left) => {
+            take_item(alloc, heading, gathered, section, left, number, line)
+        }
+        Stage::End if line == b"end".as_slice() => Ok(Stage::Closed),
+        Stage::End | Stage::Closed => Ok(Stage::Bad(number)),
+        Stage::BadHead | Stage::Bad(_) => Ok(stage),
+    }
+}

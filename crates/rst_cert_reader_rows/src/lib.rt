@@ -1,0 +1,5 @@
+//! Rows of certificates that are read, named by what they show. The texts are written out by hand from the format.
+#![tactic(auto)]
+
+#[cfg(test)]
+mod reading;

@@ -1,0 +1,5 @@
+pub mod WholeTexts
+pub mod Left
+pub mod Saves
+pub mod Texts
+pub mod Writers

@@ -1,0 +1,2 @@
+-- To be believed: all of it.
+pub mod Demo

@@ -1,0 +1,2 @@
+pub mod RelatedDesigns
+pub mod Meaning

@@ -1,0 +1,6 @@
+mod Rows
+mod Tests
+mod BitLemmas
+mod Counting
+mod MarkLemmas
+mod RowLemmas

@@ -1,0 +1,5 @@
+pub mod OneDue
+pub mod Accepted
+pub mod Chains
+pub mod Spelled
+pub mod Runs

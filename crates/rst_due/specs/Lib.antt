@@ -1,0 +1,3 @@
+-- What a reader has to believe: both.
+pub mod Due
+pub mod Asked

@@ -1,0 +1,5 @@
+pub mod CountLemmas
+pub mod FirstNames
+pub mod SignalLemmas
+pub mod StageLemmas
+pub mod TopLemmas

@@ -1,0 +1,10 @@
+pub mod Members
+pub mod Bits
+pub mod Table
+pub mod UnitGraph
+pub mod Cycles
+pub mod Picked
+pub mod Turns
+pub mod Made
+pub mod Sums
+pub mod Ranked

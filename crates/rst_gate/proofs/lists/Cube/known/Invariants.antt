@@ -1,6 +1,0 @@
-use Rattle.std.proofs.Common.{◌≡◌, map, take}
-use Rattle.rst_value.specs.Terns.{known}
-use Rattle.rst_gate.proofs.lists.Cube.known.Given as goal
-
-abbrev pub invariant-loop-bit : goal.invariant-loop-bit
-invariant-loop-bit l = l.items.items ≡ map known (take l.bit-index l.bits)

@@ -1,0 +1,7 @@
+use Rattle.std.proofs.Common.{take}
+use Rattle.std.specs.List.{AllZip}
+use Rattle.rst_value.specs.Terns.{StandsFor}
+use Rattle.rst_gate.proofs.lists.has.Given as goal
+
+abbrev pub invariant-loop-i : goal.invariant-loop-i
+invariant-loop-i l = AllZip StandsFor (take l.i l.cube) (take l.i l.bits)

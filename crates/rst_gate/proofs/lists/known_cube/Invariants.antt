@@ -1,0 +1,6 @@
+use Rattle.std.proofs.Common.{◌≡◌, map, take}
+use Rattle.rst_value.specs.Terns.{known}
+use Rattle.rst_gate.proofs.lists.known_cube.Given as goal
+
+abbrev pub invariant-loop-bit : goal.invariant-loop-bit
+invariant-loop-bit l = l.places ≡ map known (take l.bit-index l.bits)

@@ -1,9 +1,0 @@
-use Rattle.std.proofs.Common.{◌≡◌, ◌∙◌, ◌≤◌, length}
-use Rattle.rst_gate.proofs.Filling.{filled_end}
-use Rattle.rst_gate.proofs.pattern.Pattern.filled.Goals as goal
-
-pub returns-clause-fills : goal.returns-clause-fills
-returns-clause-fills c =
-    let items : c.as_slice-cube-items.result.now ≡ c.args.self.now = c.as_slice-cube-items.ensures.value ∙ c.self.view_is in
-    let past : length c.args.self.now ≤ c.loop-cube.cube-index = rw (← items) c.loop-cube-test.false in
-    filled_end c.args.self.now c.args.free.now _ c.loop-cube.word c.loop-cube.cube-index past c.loop-cube.invariant.so_far

@@ -1,6 +1,0 @@
-use Rattle.std.proofs.Common.{◌≡◌, take}
-use Rattle.rst_gate.specs.Patterns.{known_pattern}
-use Rattle.rst_gate.proofs.pattern.Pattern.from_word.Given as goal
-
-abbrev pub invariant-loop-input : goal.invariant-loop-input
-invariant-loop-input l = l.items.items ≡ known_pattern (take l.input-index l.word)

@@ -1,0 +1,10 @@
+use Rattle.std.proofs.Common.{◌≡◌, Bool, map, drop}
+use Rattle.rst_tree.specs.Modules.{PlainModule}
+use Rattle.rst_names.specs.Faults.{first}
+use Rattle.rst_hierarchy.specs.Hierarchy.{module_faults}
+use Rattle.rst_hierarchy.specs.Tables.{plain_modules, faults_where, plain_row}
+use Rattle.rst_hierarchy.proofs.hierarchy.row_passes.Given as goal
+
+abbrev pub invariant-loop-place : goal.invariant-loop-place
+invariant-loop-place l = (test : PlainModule → Bool) → l.used ≡ map test (plain_modules l.modules)
+    → first (faults_where test (module_faults (plain_modules l.modules) (plain_row l.row)) (drop l.place (plain_modules l.modules))) ≡ first (faults_where test (module_faults (plain_modules l.modules) (plain_row l.row)) (plain_modules l.modules))

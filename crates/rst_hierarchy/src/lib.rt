@@ -1,0 +1,12 @@
+//! The first rows of refusals of elaboration: modules, their hierarchy and their names (IEEE 1364-2001, clause 12.1).
+#![tactic(auto)]
+
+mod connects;
+mod declaring;
+mod hierarchy;
+mod modules;
+mod reach;
+mod uses;
+
+pub use hierarchy::{names_pass, text_passes, used_modules};
+pub use modules::{Modules, modules_of};

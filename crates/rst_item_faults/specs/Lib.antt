@@ -1,0 +1,2 @@
+-- This is a word of proofs; what a reader has to believe stands in rst_items.
+pub mod Kinds

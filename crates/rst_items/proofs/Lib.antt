@@ -1,0 +1,3 @@
+pub mod FormLemmas
+pub mod Rounds
+pub mod SeenLemmas

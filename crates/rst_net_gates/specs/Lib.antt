@@ -1,0 +1,3 @@
+-- What a reader has to believe: the condition of `lower`, and what its gates stand for.
+pub mod Netlists
+pub mod Meanings

@@ -1,0 +1,2 @@
+-- What a query has to be for the law that it is posed exactly.
+pub mod Conditions

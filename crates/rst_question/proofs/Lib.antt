@@ -1,0 +1,4 @@
+pub mod Thens
+pub mod Files
+pub mod OneQuestion
+pub mod Parts

@@ -1,0 +1,3 @@
+pub mod Widths
+pub mod Known
+pub mod Dues

@@ -1,0 +1,226 @@
+// The replies to a question.
+ghost use Rattle.std.specs.Prelude.{◌≡◌, ◌↔◌, ◌++◌, List, IfOk, IsSome, IfSome, length, map, string_bytes, codes};
+ghost use Rattle.std.specs.List.{AllByRecursion};
+ghost use Rattle.rst_value.specs.declared.tern.Tern.{Tern};
+ghost use Rattle.rst_gate.specs.TernMachine.{KnowsPattern};
+ghost use Rattle.rst_sim.specs.Trails.{pattern_trail};
+ghost use Rattle.rst_text.specs.Lines.{line, counted};
+ghost use Rattle.rst_verdict.specs.declared.verdict.Verdict.TheVariants.{SignedKnown};
+ghost use Rattle.rst_certificate.specs.CertText.{free_bits_of};
+ghost use Rattle.rst_report.specs.Heads.{KeepsLimits};
+ghost use Rattle.rst_net.specs.declared.signal.Role.TheVariants as role;
+ghost use Rattle.rst_script.specs.Scripts.{plain_script};
+ghost use Rattle.rst_design.specs.Netlists.{plain_net};
+ghost use Rattle.rst_design_terms.specs.Gates.{input_bits};
+ghost use Rattle.rst_known.specs.Readings.{design_terns};
+ghost use Rattle.rst_net_gates.specs.Netlists.{IsLowerable};
+ghost use Rattle.rst_ports.specs.Ports.{ports_with};
+ghost use Rattle.rst_answer.specs.Answers.{plain_due, refused_due, CertFits};
+ghost use Rattle.rst_question.specs.Questions.{Question as Question_, Stands};
+ghost use Rattle.rst_replies.specs.Replies.{power_up, head_for, report_for, check_due_for, demo_due_for, shown_due, not_known, IsSound, HasOrderedGates, CheckGives, DemoGives};
+
+use crate::head::{certificate, head, report};
+use rst_answer::{Answer, Ready, put_only, refused};
+use rst_decision::{decide_check, known_states};
+use rst_flow::Net;
+use rst_gate::Pattern;
+use rst_net_gates::lower;
+use rst_outside::{Bytes, Name, NoMemory};
+use rst_ports::{Ports, registers};
+use rst_question::Question;
+use rst_reject::{Code, Reject};
+use rst_report::{Head, known_rows};
+use rst_script::Script;
+use rst_sim::TernTrace;
+use rst_text::Text;
+use rst_verdict::Verdict;
+use std::alloc::Global;
+
+// The refusal of a pattern behind which a register stays unknown.
+fn not_known(alloc: Global) -> Result<Reject, NoMemory>
+    ensures { IfOk result (λ r. r ≡ not_known) }
+{
+    Ok(Reject {
+        code: Code::NotKnown,
+        file: None,
+        name: Name::new(alloc, b"")?,
+        number: 0,
+    })
+}
+
+// What is due of a verdict: the report, and the certificate to save.
+fn signed(
+    alloc: Global,
+    top: &str,
+    script: &Script,
+    net: &Net,
+    inputs: Ports,
+    verdict: Verdict,
+) -> Result<Ready, NoMemory>
+    requires inputs { inputs ≡ ports_with role.Input (plain_net net.now).signals }
+    requires version { script.now.version ≡ 1 → free_bits_of verdict ≡ 0 }
+    ensures due { IfOk result (λ ready. plain_due ready ≡ check_due_for top.now (plain_script script.now) (plain_net net.now) verdict) }
+    ensures fits { IfOk result CertFits }
+{
+    let (text, head) = match reported(alloc, top, script, net, inputs, &verdict) {
+        Ok(found) => found,
+        Err(error) => {
+            drop(verdict);
+            return Err(error);
+        }
+    };
+    let cert = certificate(alloc, script, &head, verdict)?;
+    Ok(Ready::Save { cert, text })
+}
+
+// The report of a verdict, with its head.
+fn reported(
+    alloc: Global,
+    top: &str,
+    script: &Script,
+    net: &Net,
+    inputs: Ports,
+    verdict: &Verdict,
+) -> Result<(Bytes, Head), NoMemory>
+    requires inputs { inputs ≡ ports_with role.Input (plain_net net.now).signals }
+    ensures text { IfOk result (λ it. it.0 ≡ report_for script.now.json it.1 verdict.now) }
+    ensures head { IfOk result (λ it. it.1 ≡ head_for top.now script.now.budget (ports_with role.Input (plain_net net.now).signals) (plain_net net.now)) }
+    ensures limits { IfOk result (λ it. KeepsLimits it.1) }
+{
+    let head = head(alloc, top, script.budget, net, inputs)?;
+    let text = report(alloc, script.json, &head, verdict)?;
+    Ok((text, head))
+}
+
+// What is due in a demonstration: its number, and the report.
+fn numbered(alloc: Global, stages: u8, report: &Bytes) -> Result<Bytes, NoMemory>
+    ensures { IfOk result (λ text. text ≡ line (counted (codes "demo") stages) ++ report.now) }
+{
+    let mut text = Text::new(alloc);
+    text.put_count_line(b"demo", u64::from(stages))?;
+    text.put(report.as_slice())?;
+    text.finish()
+}
+
+// What is due in a demonstration of this verdict.
+fn demonstrated(
+    alloc: Global,
+    stages: u8,
+    script: &Script,
+    net: &Net,
+    inputs: Ports,
+    verdict: Verdict,
+) -> Result<Ready, NoMemory>
+    requires inputs { inputs ≡ ports_with role.Input (plain_net net.now).signals }
+    ensures fits { IfOk result CertFits }
+    ensures due { IfOk result (λ ready. plain_due ready ≡ demo_due_for stages (plain_script script.now) (plain_net net.now) verdict) }
+{
+    let report = match reported(alloc, "demo", script, net, inputs, &verdict) {
+        Ok((text, _)) => text,
+        Err(error) => {
+            drop(verdict);
+            return Err(error);
+        }
+    };
+    match numbered(alloc, stages, &report) {
+        Ok(text) => put_only(alloc, Answer::Decided(verdict), text),
+        Err(error) => {
+            drop(verdict);
+            Err(error)
+        }
+    }
+}
+
+// The verdict on the pattern of a design, if it is known.
+fn decided(alloc: Global, net: &Net, pattern: Pattern) -> Result<Option<Verdict>, NoMemory>
+    requires lowerable { IsLowerable (plain_net net.now) }
+    requires places { AllByRecursion (λ (places : List Tern). length places ≡ input_bits (plain_net net.now)) pattern }
+    ensures known { IfOk result (λ verdict. IsSome verdict ↔ KnowsPattern (design_terns (plain_net net.now)) pattern) }
+    ensures verdict { IfOk result (λ verdict. IfSome verdict (λ it. it ≡ SignedKnown pattern)) }
+    ensures gates { IfOk result (λ verdict. HasOrderedGates (plain_net net.now)) }
+{
+    let gates = lower(alloc, net)?;
+    decide_check(alloc, &gates, pattern)
+}
+
+// What is due where a register stays unknown.
+fn unknown(alloc: Global, words: &[String]) -> Result<Ready, NoMemory>
+    ensures due { IfOk result (λ ready. plain_due ready ≡ refused_due (map string_bytes words.now) not_known) }
+    ensures fits { IfOk result CertFits }
+{
+    let reject = not_known(alloc)?;
+    refused(alloc, words, reject)
+}
+
+/// What is due in `check`: where three-valued simulation knows every register behind the pattern, the verdict with its report and its
+/// certificate; else the refusal.
+pub fn reply_check(
+    alloc: Global,
+    words: &[String],
+    top: &str,
+    question: Question,
+) -> Result<Ready, NoMemory>
+    requires { IsSound question }
+    ensures due { IfOk result (λ ready. (q : Question_) → Stands q question → CheckGives (map string_bytes words.now) top.now q (plain_due ready)) }
+    ensures fits { IfOk result CertFits }
+    ensures gates { IfOk result (λ ready. HasOrderedGates (plain_net question.net)) }
+{
+    let Question {
+        script,
+        net,
+        inputs,
+        pattern,
+    } = question;
+    match decided(alloc, &net, pattern)? {
+        Some(verdict) => signed(alloc, top, &script, &net, inputs, verdict),
+        None => unknown(alloc, words),
+    }
+}
+
+/// What is due in `demo N`: the report behind a line with N. No certificate is saved.
+pub fn reply_demo(
+    alloc: Global,
+    words: &[String],
+    stages: u8,
+    question: Question,
+) -> Result<Ready, NoMemory>
+    requires { IsSound question }
+    ensures due { IfOk result (λ ready. (q : Question_) → Stands q question → DemoGives (map string_bytes words.now) stages q (plain_due ready)) }
+    ensures fits { IfOk result CertFits }
+    ensures gates { IfOk result (λ ready. HasOrderedGates (plain_net question.net)) }
+{
+    let Question {
+        script,
+        net,
+        inputs,
+        pattern,
+    } = question;
+    match decided(alloc, &net, pattern)? {
+        Some(verdict) => demonstrated(alloc, stages, &script, &net, inputs, verdict),
+        None => unknown(alloc, words),
+    }
+}
+
+// The registers of a design in three values along a pattern.
+fn known_trace(alloc: Global, net: &Net, pattern: &Pattern) -> Result<TernTrace, NoMemory>
+    requires lowerable { IsLowerable (plain_net net.now) }
+    requires places { AllByRecursion (λ (places : List Tern). length places ≡ input_bits (plain_net net.now)) pattern.now }
+    ensures gates { IfOk result (λ trace. HasOrderedGates (plain_net net.now)) }
+    ensures states { IfOk result (λ trace. trace.states.items ≡ pattern_trail (design_terns (plain_net net.now)) (power_up (plain_net net.now)) pattern.now) }
+{
+    let gates = lower(alloc, net)?;
+    known_states(alloc, &gates, pattern)
+}
+
+/// What is due in `known`: the registers in three values, at power-up and behind each cycle of the pattern.
+pub fn reply_known(alloc: Global, question: &Question) -> Result<Ready, NoMemory>
+    requires { IsSound question.now }
+    ensures due { IfOk result (λ ready. (q : Question_) → Stands q question.now → plain_due ready ≡ shown_due q) }
+    ensures fits { IfOk result CertFits }
+    ensures gates { IfOk result (λ ready. HasOrderedGates (plain_net question.now.net)) }
+{
+    let trace = known_trace(alloc, &question.net, &question.pattern)?;
+    let ports = registers(alloc, question.net.signals.as_slice())?;
+    let text = known_rows(alloc, ports.as_slice(), trace.states.as_slice())?;
+    put_only(alloc, Answer::Shown, text)
+}

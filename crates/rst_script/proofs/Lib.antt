@@ -1,0 +1,9 @@
+pub mod Rests
+pub mod Names
+pub mod LineFacts
+pub mod SignFacts
+pub mod NumberFacts
+pub mod FitFacts
+pub mod PatternFacts
+pub mod ScriptFacts
+pub mod FaultFacts

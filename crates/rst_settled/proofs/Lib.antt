@@ -1,0 +1,15 @@
+pub mod Bits
+pub mod Targets
+pub mod SameValues
+pub mod Bodies
+pub mod SameEffects
+pub mod SameBlocks
+pub mod SameResets
+pub mod Members
+pub mod Uniqueness
+pub mod Numbers
+pub mod Start
+pub mod Runs
+pub mod Existence
+pub mod Accepted
+pub mod Settling

@@ -1,6 +1,0 @@
-pub mod Separators
-pub mod PrefixCodes
-pub mod Texts
-pub mod Names
-pub mod Splits
-pub mod Loops

@@ -1,4 +1,0 @@
-pub mod Resolved
-pub mod Stands
-pub mod Turns
-pub mod Spelled

@@ -1,7 +1,0 @@
-pub mod Names
-pub mod Meaning
-pub mod Form
-pub mod Symbols
-pub mod Spelling
-pub mod Rules
-pub mod Designs

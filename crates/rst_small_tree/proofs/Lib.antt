@@ -1,4 +1,0 @@
-pub mod Many
-pub mod Takes
-pub mod Sound
-pub mod Whole

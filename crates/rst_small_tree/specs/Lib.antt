@@ -1,4 +1,0 @@
-pub mod Marks
-pub mod Tree
-pub mod Gives
-pub mod Reading

@@ -1,0 +1,4 @@
+pub mod Machines
+pub mod Designs
+pub mod Sources
+pub mod Nets

@@ -1,0 +1,3 @@
+-- What a reader has to believe: all of it.
+pub mod Ordered
+pub mod Alike

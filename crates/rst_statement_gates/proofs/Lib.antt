@@ -1,0 +1,10 @@
+pub mod Rows
+pub mod Bits
+pub mod Marking
+pub mod Tables
+pub mod Choosing
+pub mod Merging
+pub mod Reading
+pub mod Branching
+pub mod Steps
+pub mod Ends

@@ -1,0 +1,49 @@
+-- The rows of typed statements in memory are the lists of their plain form.
+use Rattle.std.proofs.Common.{◌≡◌, ◌∙◌, refl, ap, map, Option, Some, None, Bool}
+use Rattle.std.specs.declared.vec.Vec.{Vec}
+use Rattle.std.specs.declared.boxed.Box.{Box}
+use Rattle.std.specs.declared.alloc.Global.{Global}
+use mathlib.Core.Former.{Count}
+use Rattle.rst_net.specs.declared.stmt.TypedStmt.{TypedStmt, Row_of-TypedStmt, end_of-TypedStmt, more_of-TypedStmt, items-the_row-TypedStmt, items_hidden-the_row-TypedStmt-0}
+use Rattle.rst_net.specs.declared.stmt.TypedStmt.TheBlock.{hidden-the_row-TypedStmt-0, shape-the_row-TypedArm-1, hidden-the_row-TypedArm-1}
+use Rattle.rst_net.specs.declared.stmt.TypedArm.{TypedArm}
+use Rattle.rst_net.specs.declared.stmt.TypedCase.{TypedCase, TypedCase', is-TypedCase', back-TypedCase-otherwise, out-TypedCase, Row_of-TypedArm, end_of-TypedArm, more_of-TypedArm, items-the_row-TypedArm, items_hidden-the_row-TypedArm-1}
+use Rattle.rst_net.specs.declared.stmt.TypedStmt.TheVariants as stmt
+use Rattle.rst_width.specs.declared.typed_expr.TypedExpr.{TypedExpr}
+use Rattle.rst_width.specs.Typed.{plain_typed}
+use Rattle.rst_statement_gates.specs.Plain.{plain_default}
+use Rattle.rst_net.specs.Statements.{Statement, Block, Case, Default, no_default, default, more, arm, plain_case, plain_stmt, plain_stmts, plain_arms, plain_row, plain_arm_row, plain_label}
+
+plain_row-items : {n : Count} (k : Row_of-TypedStmt n) → plain_row k ≡ plain_stmts (items-the_row-TypedStmt n k)
+plain_row-items end_of-TypedStmt = refl
+plain_row-items (more_of-TypedStmt s ss) = ap (more (plain_stmt s)) (plain_row-items ss)
+
+pub plain_stmt-Block : (v : Vec TypedStmt Global) → plain_stmt (stmt.Block v) ≡ Block (plain_stmts v.items)
+plain_stmt-Block v = ap Block (plain_row-items (hidden-the_row-TypedStmt-0 v) ∙ ap plain_stmts (items_hidden-the_row-TypedStmt-0 v))
+
+plain_arm_row-items : {n : Count} (k : Row_of-TypedArm n) → plain_arm_row k ≡ plain_arms (items-the_row-TypedArm n k)
+plain_arm_row-items end_of-TypedArm = refl
+plain_arm_row-items (more_of-TypedArm ls s others) = ap (arm (map plain_label ls.items) (plain_stmt s)) (plain_arm_row-items others)
+
+pub plain_arms-hidden : (v : Vec TypedArm Global) → plain_arm_row (hidden-the_row-TypedArm-1 v) ≡ plain_arms v.items
+plain_arms-hidden v = plain_arm_row-items (hidden-the_row-TypedArm-1 v) ∙ ap plain_arms (items_hidden-the_row-TypedArm-1 v)
+
+-- a case by its parts
+abbrev pub case_of : Box TypedExpr Global → Vec TypedArm Global → Option (Box TypedStmt Global) → Bool → Statement
+case_of selector arms otherwise full = Case (plain_typed selector.value) (plain_arms arms.items) (plain_default otherwise) full
+
+case_at : (selector : Box TypedExpr Global) (arms : Vec TypedArm Global) (otherwise : Option (Box TypedStmt Global)) (full : Bool)
+    → plain_case (TypedCase' selector (shape-the_row-TypedArm-1 arms) (hidden-the_row-TypedArm-1 arms) (back-TypedCase-otherwise otherwise) full) ≡ case_of selector arms otherwise full
+case_at selector arms None full = ap (λ a. Case (plain_typed selector.value) a no_default full) (plain_arms-hidden arms)
+case_at selector arms (Some b) full = ap (λ a. Case (plain_typed selector.value) a (default (plain_stmt b.value)) full) (plain_arms-hidden arms)
+
+pub plain_stmt-Case : (x : TypedCase) → plain_stmt (stmt.Case x) ≡ case_of (out-TypedCase x).selector (out-TypedCase x).arms (out-TypedCase x).otherwise (out-TypedCase x).full
+plain_stmt-Case x = ap plain_case (is-TypedCase' x) ∙ case_at (out-TypedCase x).selector (out-TypedCase x).arms (out-TypedCase x).otherwise (out-TypedCase x).full
+
+-- a case by its fields
+pub plain_case-out : (x : TypedCase) → plain_case x ≡ case_of (out-TypedCase x).selector (out-TypedCase x).arms (out-TypedCase x).otherwise (out-TypedCase x).full
+plain_case-out x = ap plain_case (is-TypedCase' x) ∙ case_at (out-TypedCase x).selector (out-TypedCase x).arms (out-TypedCase x).otherwise (out-TypedCase x).full
+
+pub ruleset rows = (plain_stmt-Block, plain_stmt-Case, plain_arms-hidden)
+
+pub ruleset cases = (plain_case-out, plain_arms-hidden)

@@ -1,0 +1,2 @@
+pub mod RelatedWords
+pub mod RelatedStatements

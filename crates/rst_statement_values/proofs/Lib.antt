@@ -1,0 +1,4 @@
+pub mod Matches
+pub mod Slices
+pub mod Branches
+pub mod Effects

@@ -1,0 +1,4 @@
+-- The condition of the law.
+pub mod Fits
+-- What it speaks of.
+pub mod Agreement

@@ -1,6 +1,0 @@
-use Rattle.std.proofs.Common.{◌≡◌, ◌+◌, drop}
-use Rattle.rst_texts.specs.ReportText.{width_sum}
-use Rattle.rst_texts.proofs.report.width_sum.Given as goal
-
-abbrev pub invariant-loop-port : goal.invariant-loop-port
-invariant-loop-port l = l.sum + width_sum (drop l.port-index l.ports) ≡ width_sum l.ports

@@ -1,0 +1,4 @@
+//! Laws of typed statements without faults: they fit together.
+#![tactic(auto)]
+
+pub mod laws;

@@ -1,0 +1,2 @@
+-- To be believed: nothing here. The plain forms of verdicts and certificates are those of their types, with lists in place of
+-- `Bits`, `Sequence`, `Pattern`, `Hops`, `Log` and `Journal`.
