@@ -13,7 +13,7 @@ use Rattle.rst_names.specs.declared.forms.Form.{Form}
 use Rattle.rst_names.specs.declared.forms.Form.TheVariants.{Listed, Directed, Net, Parameter, Instance}
 use Rattle.rst_names.specs.Declarations.{Declaration, declarations, param_declarations, param_declaration, header_declarations, item_declarations, port_declarations, port_declaration, net_declaration, copy_declaration, listed, of_name, declares, is_signal, is_input, is_reg, ports}
 use Rattle.rst_names.proofs.TableLemmas.{one_text}
-use Rattle.rst_hierarchy.specs.NameRows.{goes_with, is_listed, may_follow, twice_behind, twice, bad_port, input_regs, bad_header, is_plain, is_bad_direction, bad_item, bad_ports}
+use Rattle.rst_name_faults.specs.NameRows.{goes_with, is_listed, may_follow, twice_behind, twice, bad_port, input_regs, bad_header, is_plain, is_bad_direction, bad_item, bad_ports}
 use Rattle.rst_flow.proofs.Members.{In, in_either, any_in}
 use Rattle.rst_accepted.proofs.Rows.{left_none, right_none}
 use Rattle.rst_accepted_drivers.proofs.Lists.{in_flat_map, in_map, map_in, in_filter, filter_in, none_at, nothing_in, no_fault, clash}

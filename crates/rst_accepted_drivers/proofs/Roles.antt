@@ -13,7 +13,7 @@ use Rattle.rst_names.specs.Faults.{first}
 use Rattle.rst_names.specs.Names.{same_text}
 use Rattle.rst_names.specs.Declarations.{Declared, declarations, declares, is_input, is_reg as is_reg_form, signal_named, signals, ports, inner_names}
 use Rattle.rst_hierarchy.specs.Hierarchy.{is_used, used, row_faults, module_faults, Twice, BadPort, NoName, BadConnect, NoParameter}
-use Rattle.rst_hierarchy.specs.NameRows.{twice, bad_ports}
+use Rattle.rst_name_faults.specs.NameRows.{twice, bad_ports}
 use Rattle.rst_instances.specs.Places.{Joined, Apart, ToClock, ToInput, Place, Located, joined_of, located, located_from}
 use Rattle.rst_items.specs.Seen.{Seen, seen}
 use Rattle.rst_items.specs.Items.{number_or, is_clock_name, units, clocked}

@@ -13,7 +13,7 @@ use Rattle.rst_names.specs.Names.{same_text, is_among}
 use Rattle.rst_names.specs.SameTrees.{same_range}
 use Rattle.rst_names.specs.Declarations.{Declaration, declarations, of_name, declares, is_signal, is_input, is_parameter, signal_declarations, signal_names}
 use Rattle.rst_names.proofs.TableLemmas.{one_text}
-use Rattle.rst_hierarchy.specs.NameRows.{is_listed, goes_with, may_follow, twice_behind, twice}
+use Rattle.rst_name_faults.specs.NameRows.{is_listed, goes_with, may_follow, twice_behind, twice}
 use Rattle.rst_accepted.proofs.Rows.{left_none, right_none}
 use Rattle.rst_accepted_units.proofs.Lists.{or_first, or_second}
 

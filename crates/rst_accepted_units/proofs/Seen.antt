@@ -10,7 +10,7 @@ use Rattle.rst_cycle.specs.Signals.{width_of}
 use Rattle.rst_names.specs.Faults.{first}
 use Rattle.rst_names.specs.Names.{same_text}
 use Rattle.rst_names.specs.Declarations.{settable, signal_named, signals}
-use Rattle.rst_hierarchy.specs.NameRows.{twice}
+use Rattle.rst_name_faults.specs.NameRows.{twice}
 use Rattle.rst_hierarchy.specs.Hierarchy.{module_named, instances_in, is_used, Twice, BadPort, NoName, BadConnect, NoParameter, module_faults, row_faults, name_faults}
 use Rattle.rst_instances.specs.Parameters.{links_to, names_behind}
 use Rattle.rst_instances.specs.Places.{Place, Located, child, copies, children, below, top_place, instances, located_from, located, names_at, extent_in, copy_of, dot}

@@ -14,7 +14,7 @@ use Rattle.rst_names.specs.Faults.{first}
 use Rattle.rst_names.specs.Names.{same_text, is_among}
 use Rattle.rst_names.specs.Declarations.{Declaration, param_declaration, param_declarations, header_declarations, item_declarations, declarations, of_name, declares, is_input, is_parameter, ports, first_range, signal_names, signal_named, inner_names, item_params, param_decls}
 use Rattle.rst_names.proofs.TableLemmas.{one_text}
-use Rattle.rst_hierarchy.specs.NameRows.{twice}
+use Rattle.rst_name_faults.specs.NameRows.{twice}
 use Rattle.rst_instances.specs.Parameters.{Known, known, names_from, param_width, Valued, Linked, known_values, valued, values_of_names, values_of_decls, values_of, names_behind}
 use Rattle.rst_instances.specs.Places.{Place, Located, extent_by, extent_in, known_signal, known_signals, names_at, width_in}
 use Rattle.rst_instances.proofs.KnownLemmas.{names_from-append}

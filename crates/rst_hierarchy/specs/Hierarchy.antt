@@ -8,7 +8,7 @@ use Rattle.rst_tree.specs.Modules as tree
 use Rattle.rst_names.specs.declared.faults.ElabCode.TheVariants as code
 use Rattle.rst_names.specs.Faults.{Fault, fault_if, fault_at}
 use Rattle.rst_names.specs.Names.{same_text, repeats}
-use Rattle.rst_hierarchy.specs.NameRows.{twice, bad_ports, no_names, bad_copies, bad_params}
+use Rattle.rst_name_faults.specs.NameRows.{twice, bad_ports, no_names, bad_copies, bad_params}
 
 -- The module of this name.
 abbrev pub module_named : List PlainModule → Text → Option PlainModule

@@ -1,3 +1,3 @@
-pub mod NameRows
+pub use Rattle.rst_name_faults.specs.NameRows
 pub mod Hierarchy
 pub mod Tables

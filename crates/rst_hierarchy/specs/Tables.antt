@@ -1,5 +1,5 @@
 -- How the code shows the modules of a design, and its marks and counts.
-use Rattle.std.specs.Prelude.{◌≡◌, ℕ, suc, nat_eq, min, Bool, true, false, ◌||◌, ◌&&◌, cond, List, [], ◌∷◌, Option, None, Some, map, filter, position, length, get_or}
+use Rattle.std.specs.Prelude.{◌≡◌, ℕ, suc, nat_eq, min, Bool, false, ◌||◌, ◌&&◌, List, [], Option, None, Some, map, filter, position, length, get_or}
 use Rattle.std.specs.List.{All, AllZip, flat_map, filter_map, list_any, sum_by, enumerate_from}
 use Rattle.std.specs.Cmp.Lexicographic.{pointwise}
 use Rattle.indexmap.specs.IndexMap.{get}
@@ -9,9 +9,7 @@ use Rattle.rst_tree.specs.Modules.{PlainModule, plain_module, plain_source}
 use Rattle.rst_names.specs.declared.facts.Facts.{Facts}
 use Rattle.rst_names.specs.Faults.{Fault}
 use Rattle.rst_names.specs.Names.{same_text, is_among}
-use Rattle.rst_names.specs.Tables.{IsFacts}
-use Rattle.rst_names.specs.Declarations.{Declaration, is_signal, ports, settable}
-use Rattle.rst_names.specs.Tables.{plain_declaration}
+use Rattle.rst_names.specs.Declarations.{ports, settable}
 use Rattle.indexmap.specs.IndexSet.{contains}
 use Rattle.rst_hierarchy.specs.declared.connects.Names.{Names}
 use Rattle.rst_hierarchy.specs.declared.connects.Linked.{Linked}
@@ -19,10 +17,8 @@ use Rattle.rst_hierarchy.specs.declared.hierarchy.NameRow.{NameRow}
 use Rattle.rst_hierarchy.specs.declared.hierarchy.NameRow.TheVariants as row
 use Rattle.rst_hierarchy.specs.Hierarchy.{ModuleRow, Twice, BadPort, NoName, BadConnect, NoParameter}
 use Rattle.rst_hierarchy.specs.declared.modules as code
-use Rattle.rst_hierarchy.specs.declared.declaring.Seen.{Seen}
-use Rattle.rst_hierarchy.specs.declared.declaring.Seen.TheVariants as seen
-use Rattle.rst_hierarchy.specs.NameRows.{is_one, is_listed}
 use Rattle.rst_hierarchy.specs.Hierarchy.{places_of}
+pub use Rattle.rst_name_faults.specs.Tables.{module_of, AreRight}
 
 -- the modules of all files, in the order of files and texts
 abbrev pub modules_in : List Source → List PlainModule
@@ -37,13 +33,6 @@ place_named modules name = position (λ k. same_text k.name name) modules
 
 pub record IsTable (m : code.Modules.Modules) : Type 0 where
   pub places : (name : Text) → get (pointwise nat_eq) m.places name ≡ place_named (plain_modules m) name
-
--- a module with right tables
-abbrev pub module_of : Facts → PlainModule
-module_of f = plain_module f.module.now
-
-abbrev pub AreRight : Facts → Type 0
-AreRight f = IsFacts (module_of f) f
 
 -- the tables of these modules
 pub record AreFacts (modules : List PlainModule) (fs : List Facts) : Type 0 where
@@ -104,38 +93,6 @@ counted counts places = min (suc (sum_by (λ p. get_or counts p 0) places)) 1025
 -- the faults of a row in the modules that a test passes
 abbrev pub faults_where : (PlainModule → Bool) → (PlainModule → List Fault) → List PlainModule → List Fault
 faults_where test row modules = flat_map row (filter test modules)
-
--- what the row Twice keeps of the declarations of one name: the one, or the second of two
-pub data Kept : Type 0 where
-  One : Declaration → Kept
-  Two : Declaration → Kept
-  More : Kept
-
-abbrev pub plain_seen : Seen → Kept
-plain_seen (seen.One d) = One (plain_declaration d)
-plain_seen (seen.Two d) = Two (plain_declaration d)
-plain_seen seen.More = More
-
-abbrev pub kept_of : List Declaration → Option Kept
-kept_of [] = None
-kept_of (a ∷ []) = Some (One a)
-kept_of (a ∷ b ∷ []) = Some (Two b)
-kept_of (a ∷ b ∷ c ∷ ds) = Some More
-
-abbrev pub follows : Option Kept → Declaration → Bool
-follows None d = true
-follows (Some (One a)) d = is_listed a.form && is_signal d.form
-follows (Some (Two b)) d = is_one b d
-follows (Some More) d = false
-
-abbrev pub seen_next : Option Kept → Declaration → Kept
-seen_next None d = One d
-seen_next (Some (One a)) d = Two d
-seen_next (Some (Two b)) d = More
-seen_next (Some More) d = More
-
-abbrev pub seen_after : Option Kept → Bool → Declaration → Option Kept
-seen_after before same d = cond same (Some (seen_next before d)) before
 
 -- whether a set shows these names: how many, and which
 pub record AreNames (names : List Text) (n : Names) : Type 0 where

@@ -9,7 +9,7 @@ ghost use Rattle.rst_tree.specs.Trees.{Text, plain};
 ghost use Rattle.rst_tree.specs.Modules.{PlainModule, plain_link, plain_links, plain_copied, plain_item};
 ghost use Rattle.rst_names.specs.Faults.{Refuses, first};
 ghost use Rattle.rst_names.specs.Names.{same_text, is_among, repeats};
-ghost use Rattle.rst_hierarchy.specs.NameRows.{is_bad, has_empty, bad_copy, bad_setting};
+ghost use Rattle.rst_name_faults.specs.NameRows.{is_bad, has_empty, bad_copy, bad_setting};
 ghost use Rattle.rst_hierarchy.specs.Hierarchy.{module_named, bad_connects_in, no_parameters_in};
 ghost use Rattle.rst_hierarchy.specs.Tables.{plain_modules, IsTable, AreFacts, AreRight, module_of, AreNames, IsLinked, AreLinked, LinksOf};
 

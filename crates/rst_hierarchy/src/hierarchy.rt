@@ -9,10 +9,9 @@ ghost use Rattle.rst_hierarchy.specs.Hierarchy.{two_modules, text_faults, unknow
 ghost use Rattle.rst_hierarchy.specs.Tables.{plain_modules, placed, rows_of, faults_where, module_of, plain_row, IsTable, AreRight, AreFacts, AreLinked};
 
 use crate::connects::{Linked, all_linked, connects_pass, params_pass};
-use crate::declaring::{ports_pass, twice_passes};
 use crate::modules::{Modules, all_placed};
 use crate::reach::{instance_count, is_marked, is_marked_in, is_place, is_too_deep, reaches};
-use crate::uses::uses_pass;
+use rst_name_faults::{ports_pass, twice_passes, uses_pass};
 use rst_names::{ElabCode, ElabError, Facts, facts_of, refusal};
 use rst_outside::NoMemory;
 use rst_tree::{Instance, Item, Module};

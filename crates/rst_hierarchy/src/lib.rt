@@ -2,11 +2,9 @@
 #![tactic(auto)]
 
 mod connects;
-mod declaring;
 mod hierarchy;
 mod modules;
 mod reach;
-mod uses;
 
 pub use hierarchy::{names_pass, text_passes, used_modules};
 pub use modules::{Modules, modules_of};

@@ -4,7 +4,7 @@ use Rattle.rst_hierarchy.proofs.connects.all_linked.Goals as goal
 use Rattle.std.proofs.Common.{refl, sym, ap, subst, slice_get, ◌∙◌, arith}
 use Rattle.std.proofs.lemmas.List.{take_all, length-map}
 use Rattle.rst_names.proofs.Turns.{at, read}
-use Rattle.rst_hierarchy.proofs.BuildLemmas.{seen_at, all_at}
+use Rattle.rst_name_faults.proofs.BuildLemmas.{seen_at, all_at}
 use Rattle.rst_hierarchy.proofs.LinkLemmas.{linked_push}
 
 pub loop-facts-preserved : goal.loop-facts-preserved

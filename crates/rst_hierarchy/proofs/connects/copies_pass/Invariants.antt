@@ -3,7 +3,7 @@ use Rattle.std.specs.List.{flat_map}
 use Rattle.rst_tree.specs.Trees.{Text}
 use Rattle.rst_tree.specs.Modules.{plain_copied}
 use Rattle.rst_names.specs.Faults.{first}
-use Rattle.rst_hierarchy.specs.NameRows.{bad_copy}
+use Rattle.rst_name_faults.specs.NameRows.{bad_copy}
 use Rattle.rst_hierarchy.specs.Tables.{AreNames}
 use Rattle.rst_hierarchy.proofs.connects.copies_pass.Given as goal
 

@@ -2,7 +2,7 @@ use Rattle.std.proofs.Common.{◌≡◌, None, slice_get, sym, subst, ◌∙◌}
 use Rattle.std.specs.Option.{option_copied}
 use Rattle.rst_hierarchy.specs.Hierarchy.{module_named}
 use Rattle.rst_hierarchy.specs.Tables.{plain_modules, LinksOf}
-use Rattle.rst_hierarchy.proofs.BuildLemmas.{got}
+use Rattle.rst_name_faults.proofs.BuildLemmas.{got}
 use Rattle.rst_hierarchy.proofs.LinkLemmas.{linked_named, none_linked}
 use Rattle.rst_hierarchy.proofs.connects.linked_at.Goals as goal
 

@@ -9,7 +9,7 @@ use Rattle.rst_hierarchy.proofs.connects.names_twice.Goals as goal
 use Rattle.std.proofs.Common.{Some, slice_get, refl, sym, ap, ◌∙◌}
 use Rattle.std.proofs.lemmas.Option.{slice_get-map}
 use Rattle.rst_tree.specs.Modules.{PlainLink}
-use Rattle.rst_hierarchy.proofs.BuildLemmas.{seen_at}
+use Rattle.rst_name_faults.proofs.BuildLemmas.{seen_at}
 use Rattle.rst_hierarchy.proofs.LinkLemmas.{from_not, from_not_true, stands_twice, stands_first, among_more}
 
 pub returns-then-not-new : goal.returns-then-not-new

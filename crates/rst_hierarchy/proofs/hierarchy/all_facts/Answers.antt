@@ -10,7 +10,7 @@ use Rattle.std.proofs.lemmas.List.Elements.{All-push}
 use Rattle.rst_tree.specs.declared.module.Module.{Module}
 use Rattle.rst_names.specs.Tables.{IsFacts}
 use Rattle.rst_names.proofs.Turns.{at}
-use Rattle.rst_hierarchy.proofs.BuildLemmas.{seen_at}
+use Rattle.rst_name_faults.proofs.BuildLemmas.{seen_at}
 
 pub loop-module-preserved : goal.loop-module-preserved
 loop-module-preserved c =

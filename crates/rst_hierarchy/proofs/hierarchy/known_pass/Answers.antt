@@ -8,7 +8,7 @@ use Rattle.rst_hierarchy.proofs.hierarchy.known_pass.Goals as goal
 use Rattle.std.proofs.Common.{sym, subst, ◌∙◌}
 use Rattle.std.proofs.lemmas.Result.{err_from_is_err_and}
 use Rattle.rst_tree.specs.declared.module.Module.{Module}
-use Rattle.rst_hierarchy.proofs.BuildLemmas.{seen_at}
+use Rattle.rst_name_faults.proofs.BuildLemmas.{seen_at}
 use Rattle.rst_hierarchy.proofs.RowsOfModules.{where_refuses, where_goes_on, where_left_out}
 use Rattle.rst_hierarchy.proofs.hierarchy.known_pass.Goals.{then-is_marked+in_ok-placed_modules_pass, else-is_marked}
 

@@ -10,7 +10,7 @@ use Rattle.rst_names.specs.declared.faults.ElabCode.TheVariants as code
 use Rattle.rst_names.specs.Faults.{Tells, fault_at}
 use Rattle.rst_names.proofs.RowLemmas.{refuses_same, refuses_head}
 use Rattle.rst_hierarchy.specs.Tables.{is_place, place_named}
-use Rattle.rst_hierarchy.proofs.BuildLemmas.{seen_at}
+use Rattle.rst_name_faults.proofs.BuildLemmas.{seen_at}
 use Rattle.rst_hierarchy.proofs.RowsOfModules.{two_left, one_more, twice_named}
 
 pub returns-then-not-is_place-clause-refused : goal.returns-then-not-is_place-clause-refused

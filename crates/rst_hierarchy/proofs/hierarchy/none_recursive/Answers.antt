@@ -11,7 +11,7 @@ use Rattle.rst_names.specs.declared.faults.ElabCode.TheVariants as code
 use Rattle.rst_names.specs.Faults.{Tells, fault_at}
 use Rattle.rst_names.proofs.RowLemmas.{refuses_head}
 use Rattle.rst_hierarchy.specs.Tables.{mark_in}
-use Rattle.rst_hierarchy.proofs.BuildLemmas.{seen_at}
+use Rattle.rst_name_faults.proofs.BuildLemmas.{seen_at}
 use Rattle.rst_hierarchy.proofs.ReachLemmas.{mark_of}
 use Rattle.rst_hierarchy.proofs.RowsOfModules.{where_refuses, where_goes_on, where_left_out}
 use Rattle.rst_hierarchy.proofs.hierarchy.none_recursive.Goals.{else-is_marked-via-then-is_marked+else-is_marked_in, else-is_marked-via-else-is_marked}

@@ -5,8 +5,8 @@ use Rattle.rst_hierarchy.specs.Tables.{plain_modules, module_of, plain_row}
 use Rattle.rst_hierarchy.proofs.hierarchy.row_passes.Goals as goal
 use Rattle.std.proofs.Common.{refl, sym, ap, ◌∙◌}
 use Rattle.std.proofs.lemmas.Result.{err_from_is_err_and}
-use Rattle.rst_hierarchy.proofs.BuildLemmas.{seen_at, all_at}
-use Rattle.rst_hierarchy.proofs.UseLemmas.{few_items}
+use Rattle.rst_name_faults.proofs.BuildLemmas.{seen_at, all_at}
+use Rattle.rst_name_faults.proofs.UseLemmas.{few_items}
 use Rattle.rst_hierarchy.proofs.RowsOfModules.{where_refuses, where_goes_on, where_left_out}
 use Rattle.rst_hierarchy.proofs.hierarchy.row_passes.Goals.{then-is_marked+in_ok-module_passes, else-is_marked}
 

@@ -7,7 +7,7 @@ use Rattle.std.proofs.Common.{sym, ap, ◌∙◌}
 use Rattle.std.proofs.Common.{◌||◌}
 use Rattle.rst_tree.specs.declared.module.Module.{Module}
 use Rattle.rst_hierarchy.specs.Tables.{mark_in}
-use Rattle.rst_hierarchy.proofs.BuildLemmas.{seen_at, built}
+use Rattle.rst_name_faults.proofs.BuildLemmas.{seen_at, built}
 use Rattle.rst_hierarchy.proofs.ReachLemmas.{mark_of}
 use Rattle.rst_hierarchy.proofs.hierarchy.used_marks.Goals.{then-eq, else-eq}
 

@@ -9,7 +9,7 @@ use Rattle.std.proofs.lemmas.List.{take_all, length-map}
 use Rattle.rst_tree.specs.declared.module.Module.{Module}
 use Rattle.rst_tree.specs.Modules.{PlainModule}
 use Rattle.rst_names.proofs.TableLemmas.{goes_on}
-use Rattle.rst_hierarchy.proofs.BuildLemmas.{seen_at}
+use Rattle.rst_name_faults.proofs.BuildLemmas.{seen_at}
 
 pub loop-place-preserved : goal.loop-place-preserved
 loop-place-preserved c =

@@ -6,7 +6,7 @@ use Rattle.std.proofs.Common.{ap, ◌∙◌}
 use Rattle.rst_tree.specs.declared.module.Module.{Module}
 use Rattle.rst_tree.specs.Modules.{plain_module}
 use Rattle.rst_hierarchy.specs.Tables.{place_named}
-use Rattle.rst_hierarchy.proofs.BuildLemmas.{seen_at, built}
+use Rattle.rst_name_faults.proofs.BuildLemmas.{seen_at, built}
 
 pub loop-module-preserved : goal.loop-module-preserved
 loop-module-preserved c =
