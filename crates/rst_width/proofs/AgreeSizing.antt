@@ -1,5 +1,5 @@
 -- Sizing with every signal NotConstant agrees with sizing where signals may stand.
-use Rattle.std.proofs.Common.{◌≡◌, ◌∙◌, ℕ, ◌+◌, ◌*◌, true, false, ◌||◌, not, cond, Result, Ok, Err, Option, Some, None, refl, sym, ap, subst, nat_lt, suc, max}
+use Rattle.std.proofs.Common.{◌≡◌, ◌∙◌, ℕ, ◌+◌, ◌*◌, true, false, ◌||◌, not, cond, Result, Ok, Err, Option, Some, None, refl, sym, ap, subst, nat_lt, suc}
 use Rattle.std.specs.Prelude.{ℤ, pos, int_le, unsigned_abs, ◌-ℤ◌}
 use Rattle.rst_word.specs.declared.ops.UnaryOp.{UnaryOp}
 use Rattle.rst_word.specs.declared.ops.UnaryOp.TheVariants as unary

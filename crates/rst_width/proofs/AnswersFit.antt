@@ -5,11 +5,11 @@ use Rattle.rst_tree.specs.Trees.{Tree}
 use Rattle.rst_width.specs.declared.typed_expr.Shape.{Shape}
 use Rattle.rst_width.specs.Scopes.{Names, AreMeanings}
 use Rattle.rst_width.specs.Typed.{Typed, shape_of}
-use Rattle.rst_width.specs.Sized.{Answer, Sized, own}
+use Rattle.rst_width.specs.Sized.{Answer}
 use Rattle.rst_width.specs.Sizing.{sized}
 use Rattle.rst_width.specs.Answers.{own_shape, widened_shape, placed_shape, typed_answer, placed_answer}
 use Rattle.rst_width.specs.Fit.{FitsIn}
-use Rattle.rst_width.proofs.Fits.{in_context-fit, by_itself-fit}
+use Rattle.rst_width.proofs.Fits.{in_context-fit}
 use Rattle.rst_width.proofs.SizingFits.{sized-fit}
 
 pub only_shape : (context : Shape) (answer : Answer) → FitsIn context answer → IfOk answer (λ e. shape_of e ≡ context)

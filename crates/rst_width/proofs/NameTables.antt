@@ -8,7 +8,7 @@ use Rattle.rst_width.specs.declared.scope.Entry.TheVariants as entry
 use Rattle.rst_width.specs.declared.scope.Scope.{Scope}
 use Rattle.rst_width.specs.declared.names.Unshaped.{Unshaped}
 use Rattle.rst_width.specs.declared.names.UnshapedNames.{UnshapedNames}
-use Rattle.rst_width.specs.Scopes.{Names, Meaning, Signal, Param, Later, IsMeaning, AreMeanings, extent_of, meaning_of, entry_of, names_of, later_of, either_of, unshaped_of, names_with}
+use Rattle.rst_width.specs.Scopes.{Meaning, Signal, Param, Later, IsMeaning, AreMeanings, extent_of, meaning_of, entry_of, names_of, later_of, either_of, unshaped_of, names_with}
 
 either_of-none : (m : Option Meaning) → either_of m None ≡ m
 either_of-none None = refl

@@ -1,5 +1,5 @@
 -- What the public calls answer, from what their steps give on cut widths.
-use Rattle.std.proofs.Common.{◌≡◌, ◌∙◌, ℕ, ◌≤◌, Bool, false, true, max, Result, Ok, Err, subst, sym, ap, inl, inr, arith}
+use Rattle.std.proofs.Common.{◌≡◌, ◌∙◌, ℕ, false, true, max, Result, Ok, Err, subst, sym, ap, inl, inr, arith}
 use Rattle.std.proofs.lemmas.Bool.Decides.{leb_tells}
 use Rattle.std.specs.Prelude.{IfOk}
 use Rattle.rst_width.specs.declared.typed_expr.Shape.{Shape}

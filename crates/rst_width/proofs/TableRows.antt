@@ -1,5 +1,5 @@
 -- Sizing is the table of expression sizing, row by row.
-use Rattle.std.proofs.Common.{◌≡◌, ◌∙◌, ℕ, ◌+◌, min, max, Bool, true, false, cond, Option, Some, None, Ok, Err, refl, ap, sym, subst, arith, inl, inr}
+use Rattle.std.proofs.Common.{◌≡◌, ◌∙◌, ℕ, ◌+◌, min, max, Bool, true, false, cond, Option, Some, None, Ok, Err, refl, ap, arith, inl, inr}
 use Rattle.std.proofs.lemmas.Bool.Decides.{leb_tells}
 use Rattle.rst_word.specs.declared.ops.UnaryOp.{UnaryOp}
 use Rattle.rst_word.specs.declared.ops.UnaryOp.TheVariants as unary
@@ -13,12 +13,12 @@ use Rattle.rst_width.specs.declared.typed_expr.WidthFault.TheVariants.{NoName}
 use Rattle.rst_width.specs.Scopes.{Names, Meaning, Extent, Signal, Param, Later}
 use Rattle.rst_width.specs.Typed.{Typed, typed, sized_as}
 use Rattle.rst_width.specs.Typed as node
-use Rattle.rst_width.specs.Sized.{Answer, Sized, Found, Good, own, larger, in_context, by_itself, is_division, divided, ◌>>=◌}
+use Rattle.rst_width.specs.Sized.{Sized, Good, own, larger, in_context, is_division, divided, ◌>>=◌}
 use Rattle.rst_width.specs.Sizing.{WorksInContext, Kind, Arithmetic, Moving, Comparing, Deciding, kind_of, one_bit, above, repeat_shape, join_found, counted_found, named, unary_sized, binary_sized, sized, sized_parts}
 use Rattle.rst_width.specs.Table.{declared_shape, unary_shape, binary_shape, itself, becomes, stands, number, table_shape, table_sum, each_itself}
 use Rattle.rst_width.specs.Answers.{own_shape, placed_shape, placed_answer}
 use Rattle.rst_width.specs.Cut.{cut_shape}
-use Rattle.rst_width.proofs.Cuts.{wide, wide_fault}
+use Rattle.rst_width.proofs.Cuts.{wide}
 
 named-own : (name : Text) (m : Option Meaning) → own (named false name m) ≡ declared_shape m
 named-own name None = refl

@@ -1,11 +1,10 @@
 -- Sizing a target, and what stands in its typed form.
-use Rattle.std.proofs.Common.{◌≡◌, ◌∙◌, ℕ, ◌+◌, ◌<◌, ◌≤◌, Bool, true, false, cond, not, ◌||◌, Ok, Err, Some, None, Option, suc, List, length, drop, get_or, refl, ap, sym, arith, nat_lt, Result, inl, inr}
+use Rattle.std.proofs.Common.{◌≡◌, ◌∙◌, ℕ, ◌+◌, ◌<◌, ◌≤◌, Bool, true, false, cond, not, ◌||◌, Ok, Err, Some, None, Option, suc, List, length, drop, get_or, ap, sym, arith, nat_lt, Result}
 use Rattle.std.specs.Prelude.{IfOk, ℤ, int_le, ◌-ℤ◌, unsigned_abs}
 use Rattle.std.proofs.lemmas.Bool.{le-ltb}
-use Rattle.std.proofs.lemmas.Bool.Decides.{leb_tells}
 use Rattle.std.proofs.lemmas.List.{at_drop_more, at_drop_all}
 use Rattle.rst_tree.specs.declared.expr.Target.{Target}
-use Rattle.rst_tree.specs.Trees.{Text, Tree}
+use Rattle.rst_tree.specs.Trees.{Text}
 use Rattle.rst_tree.specs.Targets.{Place, Places, Whole, Bit, Part, Join, end, more, plain_target, plain_targets}
 use Rattle.rst_width.specs.declared.typed_expr.Shape.{Shape}
 use Rattle.rst_width.specs.declared.typed_expr.WidthFault.{WidthFault}
@@ -14,9 +13,9 @@ use Rattle.rst_width.specs.Scopes.{Names, Meaning, Extent, Signal, Param, Later}
 use Rattle.rst_width.specs.Typed.{Typed, Node, TypedList}
 use Rattle.rst_width.specs.Typed as node
 use Rattle.rst_width.specs.Values.{constant_number}
-use Rattle.rst_width.specs.Sized.{Answer, Sized, Found, Leaf, Earlier, Own, Good, by_itself, brought, own}
-use Rattle.rst_width.specs.Selects.{bit_of, bit_found, part_of, part_found, number_of_part, stays_inside, in_range, place_in, leaves_range, open_shape}
-use Rattle.rst_width.specs.Sizing.{Parts, one_bit, named, no_parts, with_part, join_found, sized, sized_parts}
+use Rattle.rst_width.specs.Sized.{Answer, Sized, Found, Leaf, Earlier, Own, Good, by_itself, own}
+use Rattle.rst_width.specs.Selects.{bit_found, part_of, part_found, number_of_part, stays_inside, in_range, place_in, leaves_range, open_shape}
+use Rattle.rst_width.specs.Sizing.{Parts, one_bit, named, with_part, join_found, sized, sized_parts}
 use Rattle.rst_width.specs.Targets.{target_expr, target_exprs, IsPlace, IsPlaceNode, ArePlaces}
 use Rattle.rst_width.specs.Cut.{cut, with_next}
 use Rattle.rst_width.proofs.Fits.{bind}

@@ -6,7 +6,7 @@ use Rattle.rst_word.specs.declared.ops.UnaryOp.{UnaryOp}
 use Rattle.rst_word.specs.declared.ops.UnaryOp.TheVariants as unary
 use Rattle.rst_word.specs.declared.ops.BinaryOp.{BinaryOp}
 use Rattle.rst_word.specs.declared.ops.BinaryOp.TheVariants as binary
-use Rattle.rst_word.specs.Words.{PlainWord, IsWord, joined, extended}
+use Rattle.rst_word.specs.Words.{PlainWord, IsWord, joined}
 use Rattle.rst_word.specs.Unary.{unary_word, is_true}
 use Rattle.rst_word.specs.Binary.{binary_word, HasWidths}
 use Rattle.rst_word.proofs.Results.{unary_is_word, binary_is_word, joined_is_word, extended_is_word}

@@ -4,7 +4,7 @@ use Rattle.rst_width.specs.declared.typed_expr.Shape.{Shape}
 use Rattle.rst_width.specs.Sized.{Answer, own, by_itself, ◌>>=◌, Sized, Found, Leaf, Unary, Binary, Shift, Choose, Earlier, Own, Good}
 use Rattle.rst_width.specs.Sizing.{WorksInContext, Parts, Arithmetic, Moving, kind_of}
 use Rattle.rst_width.specs.Fit.{IsFit, IsFitNode}
-use Rattle.rst_width.specs.Typed.{Typed, TypedList, end, more, appended, sized_as}
+use Rattle.rst_width.specs.Typed.{TypedList, end, more, appended, sized_as}
 use Rattle.rst_width.specs.declared.typed_expr.WidthFault.{WidthFault}
 
 abbrev pub cut_width : ℕ → ℕ

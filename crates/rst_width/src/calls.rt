@@ -81,7 +81,10 @@ pub fn size_and_sign(alloc: Global, expr: &Expr, scope: &Scope) -> Result<Shape,
     let sized = sized_in(alloc, expr, scope)?;
     let shape = own(&sized);
     match walk(alloc, sized, shape, false)? {
-        Ok(_) => Ok(shape),
+        Ok(typed) => {
+            drop(typed);
+            Ok(shape)
+        }
         Err(fault) => Err(fault),
     }
 }
@@ -172,7 +175,11 @@ pub fn constant_among(
     let sized = sized(alloc, true, expr, scope, unshaped)?;
     let context = widened(own(&sized), context);
     match in_context(alloc, sized, context)? {
-        Ok(typed) => Ok(constant_word(&typed)),
+        Ok(typed) => {
+            let word = constant_word(&typed);
+            drop(typed);
+            Ok(word)
+        }
         Err(fault) => Err(fault),
     }
 }

@@ -150,9 +150,18 @@ pub fn repeat_sized(count: Answer, parts: Parts) -> SizedExpr
     let number = number_of_part(&count);
     let shape = repeat_shape(number, parts.width);
     let found = match (count, parts.list) {
-        (Err(fault), _) => Found::Earlier(fault),
-        (Ok(_), Err(fault)) => Found::Earlier(fault),
-        (Ok(_), Ok(list)) => repeat_found(number, parts.width, list),
+        (Err(fault), list) => {
+            drop(list);
+            Found::Earlier(fault)
+        }
+        (Ok(count), Err(fault)) => {
+            drop(count);
+            Found::Earlier(fault)
+        }
+        (Ok(count), Ok(list)) => {
+            drop(count);
+            repeat_found(number, parts.width, list)
+        }
     };
     SizedExpr::Leaf(shape, found)
 }

@@ -22,6 +22,7 @@ pub fn signal_at(constant: bool, node: TypedNode) -> Found
     ensures { plain_found result ≡ signal_at constant (plain_node node) }
 {
     if constant {
+        drop(node);
         Found::Own(WidthFault::NotConstant)
     } else {
         Found::Good(node)
@@ -98,6 +99,7 @@ fn variable_bit(
         signed: index.signed,
     };
     if !stays_inside(shape, index_shape) {
+        drop(index);
         return Ok(Found::Own(WidthFault::MayLeaveRange));
     }
     let node = TypedNode::Pick(signal, Box::new(alloc, index)?);

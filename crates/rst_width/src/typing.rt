@@ -69,10 +69,18 @@ fn leaf_in(alloc: Global, shape: Shape, found: Found, context: Shape) -> Result<
 {
     match found {
         Found::Earlier(fault) => Ok(Err(fault)),
-        Found::Own(_) if context.width > 64 => Ok(Err(WidthFault::TooWide)),
-        Found::Own(fault) => Ok(Err(fault)),
-        Found::Good(_) if context.width > 64 => Ok(Err(WidthFault::TooWide)),
+        Found::Own(fault) => {
+            if context.width > 64 {
+                drop(fault);
+                return Ok(Err(WidthFault::TooWide));
+            }
+            Ok(Err(fault))
+        }
         Found::Good(node) => {
+            if context.width > 64 {
+                drop(node);
+                return Ok(Err(WidthFault::TooWide));
+            }
             let typed = brought(alloc, shape, node, context)?;
             Ok(Ok(typed))
         }
@@ -162,8 +170,14 @@ fn binary_in(
     ensures { IfOk result (λ answer. plain_answer answer ≡ binary_step tests op (plain_answer a) (plain_answer b) context) }
 {
     match (a, b) {
-        (Err(fault), _) => Ok(Err(fault)),
-        (Ok(_), Err(fault)) => Ok(Err(fault)),
+        (Err(fault), b) => {
+            drop(b);
+            Ok(Err(fault))
+        }
+        (Ok(a), Err(fault)) => {
+            drop(a);
+            Ok(Err(fault))
+        }
         (Ok(a), Ok(b)) => operated(alloc, op, a, b, context, tests),
     }
 }

@@ -16,8 +16,8 @@ returns-in-Ok c =
     let s = sized true (names_with c.args.scope.now c.args.unshaped.now) (plain c.args.expr.now) in
     let is = typed_call s (plain_sized c.in_ok-sized.sized) c.own.result c.widened-context.result c.args.context c.in_ok-sized.ensures.exact c.own.ensures c.widened-context.ensures in
     let found : in_context true s (widened_shape (own s) c.args.context) ≡ Ok (plain_typed c.in-Ok.typed) = sym is ∙ sym c.in_ok-typed.ensures.exact ∙ ap plain_answer c.in-Ok.is in
-    let exact : constant_answer (names_with c.args.scope.now c.args.unshaped.now) (plain c.args.expr.now) c.args.context ≡ Ok (plain_word c.constant_word.result) = rw found (ap Ok (sym c.constant_word.ensures)) in
-    record { exact = exact; value = constant_value (names_with c.args.scope.now c.args.unshaped.now) (plain c.args.expr.now) c.args.context (plain_word c.constant_word.result) exact }
+    let exact : constant_answer (names_with c.args.scope.now c.args.unshaped.now) (plain c.args.expr.now) c.args.context ≡ Ok (plain_word c.constant_word-word.result) = rw found (ap Ok (sym c.constant_word-word.ensures)) in
+    record { exact = exact; value = constant_value (names_with c.args.scope.now c.args.unshaped.now) (plain c.args.expr.now) c.args.context (plain_word c.constant_word-word.result) exact }
 
 pub returns-in-Err : goal.returns-in-Err
 returns-in-Err c =

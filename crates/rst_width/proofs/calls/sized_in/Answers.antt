@@ -1,4 +1,4 @@
-use Rattle.std.proofs.Common.{◌≡◌, ◌∙◌, ap, false}
+use Rattle.std.proofs.Common.{◌∙◌, ap, false}
 use Rattle.rst_tree.specs.Trees.{plain}
 use Rattle.rst_width.specs.Scopes.{Names}
 use Rattle.rst_width.specs.Sizing.{sized}

@@ -1,4 +1,4 @@
-use Rattle.std.proofs.Common.{◌≡◌, ◌∙◌, true, false, arith, sym, ap}
+use Rattle.std.proofs.Common.{◌≡◌, ◌∙◌, true, false, arith}
 use Rattle.rst_tree.specs.Trees.{plain}
 use Rattle.rst_width.specs.Scopes.{names_of}
 use Rattle.rst_width.specs.Typed.{Typed, shape_of}

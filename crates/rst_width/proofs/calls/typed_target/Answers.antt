@@ -1,4 +1,4 @@
-use Rattle.std.proofs.Common.{◌≡◌, ◌∙◌, true, false, arith, ap, sym}
+use Rattle.std.proofs.Common.{◌≡◌, ◌∙◌, true, false, arith, ap}
 use Rattle.rst_tree.specs.Targets.{plain_target}
 use Rattle.rst_width.specs.Scopes.{Names, names_of}
 use Rattle.rst_width.specs.Typed.{Typed, shape_of}

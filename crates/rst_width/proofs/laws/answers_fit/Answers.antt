@@ -1,6 +1,4 @@
 use Rattle.std.proofs.Common.{true, false, arith}
-use Rattle.rst_width.specs.Sized.{own}
-use Rattle.rst_width.specs.Sizing.{sized}
 use Rattle.rst_width.specs.Fit.{IsFitAt}
 use Rattle.rst_width.specs.Reads.{ReadsInside}
 use Rattle.rst_width.specs.Answers.{own_shape, widened_shape, placed_shape}

@@ -1,5 +1,4 @@
 use Rattle.std.proofs.Common.{refl, true, false}
-use Rattle.rst_width.specs.declared.typed_expr.Shape.{Shape}
 use Rattle.rst_width.specs.Sizing.{Moving, Comparing, Deciding}
 use Rattle.rst_width.specs.Answers.{widened_shape, placed_shape}
 use Rattle.rst_width.proofs.TableRows as rows

@@ -3,7 +3,7 @@ use Rattle.std.specs.Prelude.{IfOk, List, Result}
 use Rattle.rst_tree.specs.declared.expr.Target.{Target}
 use Rattle.rst_tree.specs.Trees.{Tree}
 use Rattle.rst_tree.specs.Trees as tree
-use Rattle.rst_tree.specs.Targets.{Place, Places, plain_target, plain_targets}
+use Rattle.rst_tree.specs.Targets.{Places, plain_target, plain_targets}
 use Rattle.rst_tree.proofs.Rows.{plain_target-Join}
 use Rattle.rst_width.specs.declared.sized.SizedExpr.{SizedExpr}
 use Rattle.rst_width.specs.declared.typed_expr.TypedExpr.{TypedExpr}
