@@ -103,10 +103,10 @@ command_fits (name ∷ words) =
 behind : (input : read.Input) → 1 ≤ length input.files.texts.now → IsBehind (plain_input input) → input.script.place < input.files.first
 behind input some is = from input.files.texts.now some is
   where
-  from : (texts : List (String Global)) → 1 ≤ length texts
-      → ((word : Word) (words : List Word) → words_from input.files.first (map string_bytes texts) ≡ word ∷ words → input.script.place < word.place) → input.script.place < input.files.first
-  from [] some is = omega (arith, some)
-  from (text ∷ texts) some is = is _ _ refl
+    from : (texts : List (String Global)) → 1 ≤ length texts
+        → ((word : Word) (words : List Word) → words_from input.files.first (map string_bytes texts) ≡ word ∷ words → input.script.place < word.place) → input.script.place < input.files.first
+    from [] some is = omega (arith, some)
+    from (text ∷ texts) some is = is _ _ refl
 
 pub check_before : (words : List (List ℕ)) (input : read.Input) (cert : List ℕ) → 1 ≤ length input.files.texts.now → command_of words ≡ Some (Check (plain_input input) cert)
     → input.script.place < input.files.first

@@ -30,7 +30,10 @@ fn a_word_is_the_pattern_without_free_bits(rt: HostRuntime) -> Result<(), Fail> 
     let alloc = rt.alloc();
     let word = vec![in alloc; Bits::from_slice(alloc, &[true, false])?]?;
     let pattern = known_pattern(alloc, word.as_slice())?;
-    assert_eq!(rt; pattern.get(0).as_slice(), [Tern::One, Tern::Zero].as_slice());
+    assert_eq!(rt;
+        pattern.get(0).as_slice(),
+        [Tern::One, Tern::Zero].as_slice()
+    );
     let filling = filled(alloc, &pattern, &[])?;
     assert_eq!(rt; filling.get(0).as_slice(), [true, false].as_slice());
     Ok(())

@@ -21,7 +21,7 @@ returns-in-Ok-clause-ends c =
     let input : Input = plain_input c.args.input.now in
     let texts : Texts = plain_texts c.args.texts.now in
     let same : c.places_of.result ≡ places_of input =
-        c.places_of.ensures ∙ place_same input c.args.input.now.files.first c.args.input.now.files.texts.now refl c.args.input.now.files.some in
+    c.places_of.ensures ∙ place_same input c.args.input.now.files.first c.args.input.now.files.texts.now refl c.args.input.now.files.some in
     texts_ok (map string_bytes c.args.words.now) input texts c.args.purpose c.places_of.result same c.in-Ok.question c.question_due.result
     (read_moved c.places_of.result c.places_of.result c.as_bytes.result.now input.top c.as_slice.result.now texts.script (texts_of c.as_slice-2.result.now) texts.sources c.in-Ok.question
     refl c.as_bytes.ensures.value c.as_slice.ensures.value (ap texts_of c.as_slice-2.ensures.value) c.in-Ok.ensures.question)
@@ -32,7 +32,7 @@ returns-in-Ok-clause-gates c =
     let input : Input = plain_input c.args.input.now in
     let texts : Texts = plain_texts c.args.texts.now in
     let same : c.places_of.result ≡ places_of input =
-        c.places_of.ensures ∙ place_same input c.args.input.now.files.first c.args.input.now.files.texts.now refl c.args.input.now.files.some in
+    c.places_of.ensures ∙ place_same input c.args.input.now.files.first c.args.input.now.files.texts.now refl c.args.input.now.files.some in
     texts_gates_ok (map string_bytes c.args.words.now) input texts c.args.purpose c.places_of.result same c.one_answer.ensures.answer c.in-Ok.question c.question_due.result
     (read_moved c.places_of.result c.places_of.result c.as_bytes.result.now input.top c.as_slice.result.now texts.script (texts_of c.as_slice-2.result.now) texts.sources c.in-Ok.question
     refl c.as_bytes.ensures.value c.as_slice.ensures.value (ap texts_of c.as_slice-2.ensures.value) c.in-Ok.ensures.question)
@@ -43,7 +43,7 @@ returns-in-Err-clause-ends c =
     let input : Input = plain_input c.args.input.now in
     let texts : Texts = plain_texts c.args.texts.now in
     let same : c.places_of.result ≡ places_of input =
-        c.places_of.ensures ∙ place_same input c.args.input.now.files.first c.args.input.now.files.texts.now refl c.args.input.now.files.some in
+    c.places_of.ensures ∙ place_same input c.args.input.now.files.first c.args.input.now.files.texts.now refl c.args.input.now.files.some in
     texts_err (map string_bytes c.args.words.now) input texts c.args.purpose c.places_of.result same c.in-Err.stop c.question_stopped.result
     (stops_moved c.places_of.result c.places_of.result c.as_bytes.result.now input.top c.as_slice.result.now texts.script (texts_of c.as_slice-2.result.now) texts.sources c.in-Err.stop
     refl c.as_bytes.ensures.value c.as_slice.ensures.value (ap texts_of c.as_slice-2.ensures.value) c.in-Err.ensures.refused)
@@ -54,7 +54,7 @@ returns-in-Err-clause-gates c =
     let input : Input = plain_input c.args.input.now in
     let texts : Texts = plain_texts c.args.texts.now in
     let same : c.places_of.result ≡ places_of input =
-        c.places_of.ensures ∙ place_same input c.args.input.now.files.first c.args.input.now.files.texts.now refl c.args.input.now.files.some in
+    c.places_of.ensures ∙ place_same input c.args.input.now.files.first c.args.input.now.files.texts.now refl c.args.input.now.files.some in
     texts_gates_err (map string_bytes c.args.words.now) input texts c.args.purpose c.places_of.result same c.one_answer.ensures.answer c.in-Err.stop c.question_stopped.result
     (stops_moved c.places_of.result c.places_of.result c.as_bytes.result.now input.top c.as_slice.result.now texts.script (texts_of c.as_slice-2.result.now) texts.sources c.in-Err.stop
     refl c.as_bytes.ensures.value c.as_slice.ensures.value (ap texts_of c.as_slice-2.ensures.value) c.in-Err.ensures.refused)
