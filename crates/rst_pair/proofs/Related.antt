@@ -1,5 +1,5 @@
 -- Membership in a front's relation.
-use Rattle.std.proofs.Common.{◌≡◌, ◌↔◌, ◌<◌, Bool, true, false, not, List, length, take, drop, refl}
+use Rattle.std.proofs.Common.{◌≡◌, ◌↔◌, Bool, true, false, not, List, length, take, drop, refl}
 use Rattle.std.specs.Prelude.{IsTrue}
 use Rattle.std.proofs.lemmas.Bool.{false≢true}
 use Rattle.rst_gate.specs.ClosedSets.{AgreeOn}
