@@ -6,5 +6,3 @@ pub mod Fronts
 -- Queries about pairs, and the lists and sequences that searches answer.
 pub mod Queries
 pub mod Searches
--- How the code reads hops.
-pub mod Widening

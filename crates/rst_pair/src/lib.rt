@@ -1,17 +1,14 @@
-//! Pairs of designs with the same ports: hops between cubes of pairs of states, queries about them,
-//! and the widening of hops.
+//! Pairs of designs with the same ports: hops between cubes of pairs of states, and queries about
+//! them.
 #![tactic(auto)]
 
-mod aim;
 mod front;
 mod hop;
 mod journal;
 mod laws;
-mod order;
 mod pair;
 mod places;
 mod query;
-mod widen;
 
 pub use front::{Front, in_relation};
 pub use hop::Hop;
@@ -19,4 +16,3 @@ pub use journal::{Entry, Journal};
 pub use laws::{one_pair_passes, passing_hops_are_right, relations_keep_behaviour};
 pub use pair::Pair;
 pub use query::{Kind, Query};
-pub use widen::{widen_blocked, widen_freed};

@@ -10,3 +10,5 @@ mod numbering;
 mod queries;
 #[cfg(test)]
 mod widening;
+
+pub use hops::{blocked_hop, freed_hop};

@@ -1,12 +1,16 @@
-// Posing a query about the netlist beside itself.
+// Posing a query about the netlist beside itself, and solving it.
 use crate::netlist::netlist;
+use rst_clause::Clauses;
 use rst_gate::{Bits, Cube, Sequence};
 use rst_outside::NoMemory;
 use rst_pair::{Front, Hop, Pair, Query};
 use rst_pose::{is_posable, pose};
+use rst_solve::{Answer, solve};
 use rst_value::Tern;
 use std::alloc::Global;
 use std::io;
+
+const GATES: u32 = 16_384;
 
 // How many variables and clauses a query has.
 #[derive(Clone, Copy)]
@@ -39,9 +43,9 @@ fn word(alloc: Global, cycles: u32) -> Result<Sequence, NoMemory> {
     Ok(word)
 }
 
-// The counts of Land behind a word of so many cycles; none where the query isn't within the limits.
-fn count_land(alloc: Global, cycles: u32) -> Result<Option<Counts>, NoMemory> {
-    let gates = netlist(alloc)?;
+// Land behind a word of so many cycles; none where the query isn't within the limits.
+fn posed_land(alloc: Global, cycles: u32) -> Result<Option<Clauses>, NoMemory> {
+    let gates = netlist(alloc, GATES, 1)?;
     let front = front(alloc)?;
     let query = Query::Land(word(alloc, cycles)?);
     let pair = Pair {
@@ -52,11 +56,31 @@ fn count_land(alloc: Global, cycles: u32) -> Result<Option<Counts>, NoMemory> {
         return Ok(None);
     }
     let clauses = pose(alloc, &pair, &front, &query)?;
-    Ok(Some(Counts {
-        vars: clauses.vars,
-        fixed: clauses.fixed.len(),
-        required: clauses.required.len(),
-    }))
+    Ok(Some(clauses))
+}
+
+// The counts of the query; none where it isn't within the limits.
+fn count_land(alloc: Global, cycles: u32) -> Result<Option<Counts>, NoMemory> {
+    match &posed_land(alloc, cycles)? {
+        Some(clauses) => Ok(Some(Counts {
+            vars: clauses.vars,
+            fixed: clauses.fixed.len(),
+            required: clauses.required.len(),
+        })),
+        None => Ok(None),
+    }
+}
+
+// What the solver finds of the query, in a word.
+fn solve_land(alloc: Global, cycles: u32) -> Result<&'static str, NoMemory> {
+    match &posed_land(alloc, cycles)? {
+        Some(clauses) => match &solve(alloc, clauses, 1000)? {
+            Answer::Model { bits: _, paths: _ } => Ok("model"),
+            Answer::Refuted { log: _, paths: _ } => Ok("refuted"),
+            Answer::Spent { paths: _ } => Ok("spent"),
+        },
+        None => Ok("not within the limits"),
+    }
 }
 
 /// Poses Land behind a word of so many cycles, and prints how many variables and clauses it has.
@@ -67,6 +91,14 @@ pub(crate) fn print_land<R: Print + AllocGlobal>(rt: &R, cycles: u32) -> io::Res
             counts.vars, counts.fixed, counts.required
         ),
         Ok(None) => println!(rt; "not within the limits"),
+        Err(NoMemory) => println!(rt; "no memory"),
+    }
+}
+
+/// Poses Land behind a word of so many cycles, solves it, and prints what was found.
+pub(crate) fn print_solved<R: Print + AllocGlobal>(rt: &R, cycles: u32) -> io::Result<()> {
+    match solve_land(rt.alloc(), cycles) {
+        Ok(found) => println!(rt; "{found}"),
         Err(NoMemory) => println!(rt; "no memory"),
     }
 }

@@ -1,5 +1,5 @@
 use Rattle.std.proofs.Common.{◌∙◌, ap}
-use Rattle.rst_pair.proofs.Aiming.{related_when}
+use Rattle.rst_pair.proofs.Related.{related_when}
 use Rattle.rst_pair.proofs.front.in_relation.Goals as goal
 
 pub returns-then-agreed : goal.returns-then-agreed

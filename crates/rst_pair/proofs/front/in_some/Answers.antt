@@ -4,8 +4,7 @@ use Rattle.std.specs.Prelude.{slice_index_or}
 use Rattle.std.specs.List.{AllZip}
 use Rattle.rst_value.specs.Terns.{StandsFor}
 use Rattle.rst_pair.specs.Hops.{cubes_of}
-use Rattle.rst_pair.proofs.Loops.{cube_wide, cube_read}
-use Rattle.rst_pair.proofs.Orders.{last_or_before}
+use Rattle.rst_pair.proofs.Loops.{cube_wide, cube_read, last_or_before}
 use Rattle.rst_pair.proofs.front.in_some.Goals as goal
 
 pub holds-requires : goal.holds-requires

@@ -10,6 +10,6 @@ widen_blocked-requires-clause-right c =
     let e = c.in_ok-hop.ensures in
     let p = c.args.pair.now in
     let leads : Leads p Differ c.args.input.now c.args.left.now c.args.right.now = c.in_ok-tells_apart.ensures c.if-not-branch.false in
-    let all = one_pair_right p c.args.left.now c.args.right.now c.args.input.now c.in_ok-hop.hop.cube e.cube c.requires.left leads in
+    let all = one_pair_right p Differ c.args.left.now c.args.right.now c.args.input.now c.in_ok-hop.hop.cube e.cube c.requires.left leads in
     subst (λ next. LeadsAll p (blocked_aim c.args.front.now.blocked next) c.in_ok-hop.hop.cube c.in_ok-hop.hop.input) (sym e.next)
     (subst (λ input. LeadsAll p Differ c.in_ok-hop.hop.cube input) (sym e.input) all)

@@ -1,5 +1,0 @@
-use Rattle.rst_pair.specs.Widening.{IsOrder}
-use Rattle.rst_pair.proofs.order.first_places.Given as goal
-
-abbrev pub invariant-loop-i : goal.invariant-loop-i
-invariant-loop-i l = IsOrder l.i l.places.items

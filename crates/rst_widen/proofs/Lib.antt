@@ -1,0 +1,5 @@
+pub mod Loops
+pub mod Orders
+pub mod Aiming
+pub mod Cycles
+pub mod Widened

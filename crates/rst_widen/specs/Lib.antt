@@ -1,0 +1,2 @@
+-- How the code reads hops and widens their cubes.
+pub mod Widening
