@@ -1,0 +1,6 @@
+pub mod Lists
+pub mod Journals
+pub mod Noting
+pub mod Blocked
+pub mod Bits
+pub mod Exact
