@@ -14,12 +14,13 @@ open_bits (suc n) marks t =
 
 pub length_open : (n : ℕ) (marks t : List Bool) → length (open_bits n marks t) ≡ open_count n marks
 length_open zero marks t = refl
-length_open (suc n) marks t = by (slice_index_or marks 0 false)
+length_open (suc n) marks t = by (slice_index_or marks 0 false) (length_open n (drop 1 marks) (drop 1 t))
   where
-    by : (b : Bool) → length (if b then open_bits n (drop 1 marks) (drop 1 t) else slice_index_or t 0 false ∷ open_bits n (drop 1 marks) (drop 1 t))
+    by : (b : Bool) → length (open_bits n (drop 1 marks) (drop 1 t)) ≡ open_count n (drop 1 marks)
+        → length (if b then open_bits n (drop 1 marks) (drop 1 t) else slice_index_or t 0 false ∷ open_bits n (drop 1 marks) (drop 1 t))
         ≡ (if b then 0 else 1) + open_count n (drop 1 marks)
-    by true = omega (arith, length_open n (drop 1 marks) (drop 1 t))
-    by false = omega (arith, length_open n (drop 1 marks) (drop 1 t))
+    by true h = omega (arith, h)
+    by false h = omega (arith, h)
 
 read_dropped : (xs : List Bool) (i : ℕ) → slice_index_or (drop 1 xs) i false ≡ slice_index_or xs (suc i) false
 read_dropped [] i = refl
@@ -29,38 +30,46 @@ first_and_rest : (n : ℕ) (t : List Bool) → length t ≡ suc n → slice_inde
 first_and_rest n [] e = absurd (omega (arith, e))
 first_and_rest n (x ∷ t) e = refl
 
+one_fewer : (n : ℕ) (xs : List Bool) → length xs ≡ suc n → length (drop 1 xs) ≡ n
+one_fewer n [] e = absurd (omega (arith, e))
+one_fewer n (x ∷ xs) e = omega (arith, e)
+
+agree_behind : (marks s t : List Bool) → AgreeOn marks s t → AgreeOn (drop 1 marks) (drop 1 s) (drop 1 t)
+agree_behind marks s t agree i marked =
+    read_dropped s i ∙ agree (suc i) (sym (read_dropped marks i) ∙ marked) ∙ sym (read_dropped t i)
+
 -- states that agree on the marked registers share them
 pub sharing_open :
     (n : ℕ) (marks s t : List Bool) → length t ≡ n → AgreeOn marks s t → sharing_state n marks s (open_bits n marks t) ≡ t
 sharing_open zero marks s [] count agree = refl
 sharing_open zero marks s (x ∷ t) count agree = absurd (omega (arith, count))
-sharing_open (suc n) marks s t count agree = by (slice_index_or marks 0 false) refl ∙ first_and_rest n t count
+sharing_open (suc n) marks s t count agree =
+    by (slice_index_or marks 0 false) refl
+    (sharing_open n (drop 1 marks) (drop 1 s) (drop 1 t) (one_fewer n t count) (agree_behind marks s t agree))
+    ∙ first_and_rest n t count
   where
-    rest : sharing_state n (drop 1 marks) (drop 1 s) (open_bits n (drop 1 marks) (drop 1 t)) ≡ drop 1 t
-    rest = sharing_open n (drop 1 marks) (drop 1 s) (drop 1 t) (fewer t count)
-        (λ i marked. read_dropped s i ∙ agree (suc i) (sym (read_dropped marks i) ∙ marked) ∙ sym (read_dropped t i))
-      where
-        fewer : (xs : List Bool) → length xs ≡ suc n → length (drop 1 xs) ≡ n
-        fewer [] e = absurd (omega (arith, e))
-        fewer (x ∷ xs) e = omega (arith, e)
-
     by : (b : Bool) → slice_index_or marks 0 false ≡ b
+        → sharing_state n (drop 1 marks) (drop 1 s) (open_bits n (drop 1 marks) (drop 1 t)) ≡ drop 1 t
         → (let bits = if b then open_bits n (drop 1 marks) (drop 1 t) else slice_index_or t 0 false ∷ open_bits n (drop 1 marks) (drop 1 t) in
-          (if b then slice_index_or s 0 false ∷ sharing_state n (drop 1 marks) (drop 1 s) bits
-          else slice_index_or bits 0 false ∷ sharing_state n (drop 1 marks) (drop 1 s) (drop 1 bits)))
+        (if b then slice_index_or s 0 false ∷ sharing_state n (drop 1 marks) (drop 1 s) bits
+        else slice_index_or bits 0 false ∷ sharing_state n (drop 1 marks) (drop 1 s) (drop 1 bits)))
         ≡ slice_index_or t 0 false ∷ drop 1 t
-    by true marked = ap (λ (x : Bool). x ∷ sharing_state n (drop 1 marks) (drop 1 s) (open_bits n (drop 1 marks) (drop 1 t))) (agree 0 marked)
+    by true marked rest =
+        ap (λ (x : Bool). x ∷ sharing_state n (drop 1 marks) (drop 1 s) (open_bits n (drop 1 marks) (drop 1 t))) (agree 0 marked)
         ∙ ap (λ (r : List Bool). slice_index_or t 0 false ∷ r) rest
-    by false open_one = ap (λ (r : List Bool). slice_index_or t 0 false ∷ r) rest
+    by false unmarked rest = ap (λ (r : List Bool). slice_index_or t 0 false ∷ r) rest
 
 pub length_sharing : (n : ℕ) (marks s bits : List Bool) → length (sharing_state n marks s bits) ≡ n
 length_sharing zero marks s bits = refl
-length_sharing (suc n) marks s bits = by (slice_index_or marks 0 false)
+length_sharing (suc n) marks s bits =
+    by (slice_index_or marks 0 false) (length_sharing n (drop 1 marks) (drop 1 s) bits) (length_sharing n (drop 1 marks) (drop 1 s) (drop 1 bits))
   where
-    by : (b : Bool) → length (if b then slice_index_or s 0 false ∷ sharing_state n (drop 1 marks) (drop 1 s) bits
+    by : (b : Bool) → length (sharing_state n (drop 1 marks) (drop 1 s) bits) ≡ n
+        → length (sharing_state n (drop 1 marks) (drop 1 s) (drop 1 bits)) ≡ n
+        → length (if b then slice_index_or s 0 false ∷ sharing_state n (drop 1 marks) (drop 1 s) bits
         else slice_index_or bits 0 false ∷ sharing_state n (drop 1 marks) (drop 1 s) (drop 1 bits)) ≡ suc n
-    by true = omega (arith, length_sharing n (drop 1 marks) (drop 1 s) bits)
-    by false = omega (arith, length_sharing n (drop 1 marks) (drop 1 s) (drop 1 bits))
+    by true g h = omega (arith, g)
+    by false g h = omega (arith, h)
 
 drop_one : {X : Type 0} (i : ℕ) (xs : List X) → drop 1 (drop i xs) ≡ drop (i + 1) xs
 drop_one i xs = rw (add-one i) (one i xs)
@@ -114,3 +123,7 @@ read_parts input s rest m n e f = (first, second, third)
         let count : length (input ++ s) ≡ m + n = omega (arith, length-append input s, e, f) in
         ap (drop (m + n)) (sym (append_assoc input s rest))
         ∙ subst (λ (k : ℕ). drop k ((input ++ s) ++ rest) ≡ rest) count (drop-append_seam (input ++ s) rest)
+
+pub free_step : (n : ℕ) (b : Bool) → n ≡ (if b then 0 else 1) → n ≤ 1
+free_step n true e = omega (arith, e)
+free_step n false e = omega (arith, e)

@@ -8,7 +8,7 @@ use Rattle.rst_gate.proofs.Readings.{gates_keep_states}
 use Rattle.rst_gate.proofs.Relations.{same-inductive}
 use Rattle.rst_value.specs.declared.tern.Tern.{Tern}
 use Rattle.rst_pair.specs.declared.hop.Hop.{Hop}
-use Rattle.rst_pair.specs.Sides.{Sides, AreSides, left_machine, right_machine, IsPair, Holds}
+use Rattle.rst_pair.specs.Sides.{Sides, AreSides, left_machine, right_machine, IsPair, IsCube, Holds}
 use Rattle.rst_pair.specs.Aims.{Leads, LiesInNone}
 use Rattle.rst_pair.specs.Hops.{AreHops, IsHop, cubes_of, cube_at, blocked_aim}
 use Rattle.rst_pair.specs.Fronts.{Front', IsFront}
@@ -46,7 +46,7 @@ is_within p it left right at few = record {
   freed = omega (arith, ap length at.none_freed);
 }
 
-length_cubes : (hops : List Hop) → length (cubes_of hops) ≡ length hops
+pub length_cubes : (hops : List Hop) → length (cubes_of hops) ≡ length hops
 length_cubes [] = refl
 length_cubes (hop ∷ hops) = omega (arith, length_cubes hops)
 
@@ -73,16 +73,15 @@ module _ (p : Sides) (hops : List Hop) (sides : AreSides p) (blocked : AreBlocke
   apart_by_next n input s t None pair width fits earlier leads same =
       leads (same-inductive (left_machine p) (right_machine p) s t input pair.0 pair.1 width same).0
   apart_by_next n input s t (Some k) pair width fits earlier leads same =
-      earlier k fits ((left_machine p).step s input) ((right_machine p).step t input)
-      (
+      earlier k (fits k refl) ((left_machine p).step s input) ((right_machine p).step t input) (
         gates_keep_states p.left sides.left s input pair.0 width,
         gates_keep_states p.right sides.right t input pair.1 (width ∙ sides.ports.inputs),
       )
-      (subst (λ (cube : List Tern). Holds cube ((left_machine p).step s input) ((right_machine p).step t input)) (cube_before hops n k fits) leads)
+      (subst (λ (cube : List Tern). Holds cube ((left_machine p).step s input) ((right_machine p).step t input)) (cube_before hops n k (fits k refl)) leads)
       (same-inductive (left_machine p) (right_machine p) s t input pair.0 pair.1 width same).1
 
   apart_at : (n k : ℕ) → k < n → k < length hops → IsApart k
-  apart_at zero k less below = absurd (omega (arith, less))
+  apart_at zero k less below s t pair holds same = absurd (omega (arith, less))
   apart_at (suc n) k less below s t pair holds same =
       let hop = get_or hops k no_hop in
       let one : IsBlockedHop p (take k hops) hop = blocked k no_hop below in
@@ -97,3 +96,8 @@ module _ (p : Sides) (hops : List Hop) (sides : AreSides p) (blocked : AreBlocke
   same_outside s t pair same k below holds =
       let here : k < length hops = omega (arith, below, length_cubes hops) in
       apart_at (suc k) k (omega arith) here s t pair holds same
+
+-- the cube of a hop at a place
+pub cube_wide : (p : Sides) (hops : List Hop) (k : ℕ) → AreHops p hops → k < length hops → IsCube p (cube_at hops k)
+cube_wide p hops k are below =
+    ap length (get_or-map (λ (h : Hop). h.cube) hops k no_hop [] below) ∙ (are k no_hop below).cube

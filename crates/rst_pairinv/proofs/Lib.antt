@@ -4,3 +4,5 @@ pub mod Noting
 pub mod Blocked
 pub mod Bits
 pub mod Exact
+pub mod Leading
+pub mod Asked

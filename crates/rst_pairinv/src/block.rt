@@ -70,5 +70,6 @@ pub(crate) fn block(
     let next = next_of(alloc, pair, front.blocked.as_slice(), input, left, right)?;
     let hop = wide_hop(alloc, pair, front, input, left, right, next)?;
     let both = joined(alloc, left, right)?;
-    note(alloc, so_far, hop, both)
+    note(alloc, so_far, hop, both)?;
+    Ok(())
 }

@@ -11,7 +11,7 @@ ghost use Rattle.rst_pair.specs.Fronts.{IsFront};
 ghost use Rattle.rst_pairinv.specs.Blocking.{IsBlockedHop};
 ghost use Rattle.rst_pairinv.specs.Turns.{Leaves};
 
-use crate::states::joined;
+use crate::states::{are_sides, joined};
 use rst_gate::{Bits, has, known_cube};
 use rst_outside::NoMemory;
 use rst_pair::{Front, Hop, Pair, widen_blocked};
@@ -92,7 +92,9 @@ pub(crate) fn wide_hop(
     ensures good { IfOk result (λ hop. IsBlockedHop pair.now front.now.blocked hop) }
     ensures holds { IfOk result (λ hop. Holds hop.cube left.now right.now) }
 {
+    are_sides(pair);
     let both = joined(alloc, left, right)?;
     let hop = hop_of(alloc, both.as_slice(), input, next)?;
-    widen_blocked(alloc, pair, front, hop)
+    let wide = widen_blocked(alloc, pair, front, hop)?;
+    Ok(wide)
 }

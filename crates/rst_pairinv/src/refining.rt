@@ -9,6 +9,7 @@ ghost use Rattle.rst_pairinv.specs.Refining.{AreMarked, Refutes, IsExact, KeepsW
 ghost use Rattle.rst_pairinv.specs.Answers.{blocked_in, journal_in, IsSpent, IsDone, WithLog};
 
 use crate::block::Refining;
+use crate::states::are_sides;
 use crate::turn::turn;
 use rst_clause::Log;
 use rst_gate::Bits;
@@ -48,6 +49,33 @@ fn start(alloc: Global, equal: &Bits) -> Result<Refining, NoMemory>
     Ok(Refining { front, journal })
 }
 
+fn done(so_far: Refining, log: Log) -> Refined
+    ensures blocked { blocked_in result ≡ so_far.front.blocked }
+    ensures journal { journal_in result ≡ so_far.journal }
+    ensures log { WithLog result (λ l. l ≡ log) }
+    ensures done { IsDone result }
+{
+    let front = so_far.front;
+    let journal = so_far.journal;
+    let blocked = front.blocked;
+    Refined::Done {
+        blocked,
+        log,
+        journal,
+    }
+}
+
+fn spent(so_far: Refining) -> Refined
+    ensures blocked { blocked_in result ≡ so_far.front.blocked }
+    ensures journal { journal_in result ≡ so_far.journal }
+    ensures spent { IsSpent result }
+{
+    let front = so_far.front;
+    let journal = so_far.journal;
+    let blocked = front.blocked;
+    Refined::Spent { blocked, journal }
+}
+
 /// Refines the relation of a pair of designs: blocks cubes of pairs of states until those that are
 /// left behave the same, with at most `left` units of work.
 ///
@@ -74,20 +102,14 @@ pub fn refine(alloc: Global, pair: &Pair, equal: &Bits, left: u32) -> Result<Ref
     ensures refutes { IfOk result (λ r. WithLog r (Refutes pair.now (front_with equal.now (blocked_in r)) Split)) }
     ensures exact { IfOk result (λ r. IsDone r → IsExact pair.now (front_with equal.now (blocked_in r))) }
 {
+    are_sides(pair);
     let mut so_far = start(alloc, equal)?;
     'turns: loop {
         if so_far.journal.len() >= left as usize {
-            return Ok(Refined::Spent {
-                blocked: so_far.front.blocked,
-                journal: so_far.journal,
-            });
+            return Ok(spent(so_far));
         }
         if let Some(log) = turn(alloc, pair, &mut so_far, left)? {
-            return Ok(Refined::Done {
-                blocked: so_far.front.blocked,
-                log,
-                journal: so_far.journal,
-            });
+            return Ok(done(so_far, log));
         }
     }
 }

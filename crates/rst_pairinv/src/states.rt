@@ -2,9 +2,11 @@
 
 ghost use Rattle.std.specs.Prelude.{◌≡◌, ◌++◌, false, if◌then◌else◌, IfOk, slice_index_or};
 ghost use Rattle.rst_pair.specs.Queries.{sharing_state};
+ghost use Rattle.rst_pair.specs.Sides.{AreSides};
 
 use rst_gate::Bits;
 use rst_outside::NoMemory;
+use rst_pair::Pair;
 use std::alloc::Global;
 
 // The bit at a place. Behind the end it is 0.
@@ -49,6 +51,16 @@ pub(crate) fn sharing_state(
         next += free_at(marked);
     }
     Ok(state)
+}
+
+// The edges of both sides name nodes, and their ports are equal.
+pub(crate) fn are_sides(pair: &Pair)
+    ensures { AreSides pair.now }
+{
+    let left = pair.left;
+    let right = pair.right;
+    let _first = left.states;
+    let _second = right.states;
 }
 
 // The left state's bits, then the right one's.

@@ -10,7 +10,7 @@ ghost use Rattle.rst_pairinv.specs.Refining.{AreMarked, Refutes};
 ghost use Rattle.rst_pairinv.specs.Turns.{IsRefining, IsFresh, AnswersSplit, clauses_posed, conflict_of};
 
 use crate::block::{Refining, block};
-use crate::states::sharing_state;
+use crate::states::{are_sides, sharing_state};
 use rst_clause::Log;
 use rst_gate::Cube;
 use rst_outside::NoMemory;
@@ -25,7 +25,8 @@ fn ask(alloc: Global, pair: &Pair, front: &Front, left: u32) -> Result<Answer, N
     ensures { IfOk result (λ answer. AnswersSplit pair.now front.now left answer) }
 {
     let clauses = pose(alloc, pair, front, &Query::Split)?;
-    solve(alloc, &clauses, left)
+    let answer = solve(alloc, &clauses, left)?;
+    Ok(answer)
 }
 
 // An entry for each path.
@@ -56,13 +57,15 @@ fn block_case(
     ensures equal { OnOk result (so_far.new.front.equal ≡ so_far.old.front.equal) }
     ensures longer { OnOk result (length so_far.new.journal ≡ length so_far.old.journal + 1) }
 {
+    are_sides(pair);
     let left_gates = pair.left;
     let right_gates = pair.right;
     let inputs = left_gates.inputs as usize;
     let behind = inputs + left_gates.states as usize;
     let input = &bits[..inputs];
     let left = &bits[inputs..behind];
-    let marks = so_far.front.equal.as_slice();
+    let front = &so_far.front;
+    let marks = front.equal.as_slice();
     let right = sharing_state(alloc, right_gates.states, marks, left, &bits[behind..])?;
     block(alloc, pair, so_far, input, left, right.as_slice())
 }
