@@ -1,0 +1,11 @@
+//! The relation of a pair of designs: what is left of all pairs of states once those that some word
+//! tells apart are blocked, cube by cube.
+#![tactic(auto)]
+
+mod block;
+mod hops;
+mod refining;
+mod states;
+mod turn;
+
+pub use refining::{Refined, refine};
