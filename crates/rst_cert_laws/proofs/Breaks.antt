@@ -1,9 +1,7 @@
 -- Lines have no newline inside.
-use Rattle.std.proofs.Common.{◌≡◌, ◌==◌, ◌+◌, ◌≤◌, ◌<◌, ◌^◌, ℕ, ℤ, pos, negsuc, suc, Bool, true, false, not, ◌&&◌, ◌||◌, Option, None, Some, List, [], ◌∷◌, ◌++◌, length, map, codes, refl, sym, ap, subst, ◌∙◌, arith}
-use Rattle.std.specs.Prelude.{⊤}
+use Rattle.std.proofs.Common.{◌≡◌, ◌==◌, ◌≤◌, ◌<◌, ◌^◌, ℕ, ℤ, pos, negsuc, suc, Bool, true, false, not, ◌&&◌, Option, None, Some, List, [], ◌∷◌, ◌++◌, map, codes, refl, sym, subst, arith}
 use Rattle.std.specs.List.{list_all, flat_map, AllByRecursion}
 use Rattle.std.specs.Fmt.{decimal, signed_decimal}
-use Rattle.std.specs.Char.{digit_value}
 use Rattle.std.specs.Str.Parse.{AllDigits}
 use Rattle.std.proofs.lemmas.Fmt.{decimal_is_IsNumeral}
 use Rattle.std.proofs.lemmas.Bool.{eqb-true}
@@ -17,8 +15,8 @@ use Rattle.rst_pair.specs.declared.query.Kind.{Kind}
 use Rattle.rst_pair.specs.declared.query.Kind.TheVariants as queries
 use Rattle.rst_pair.specs.declared.journal.Entry.{Entry}
 use Rattle.rst_pair.specs.declared.journal.Entry.TheVariants.{Candidate, Conflict, Blocked, Freed, Built}
-use Rattle.rst_certificate.specs.Words.{counted, digit, bits_text, place_digit, cube_text, literal_text, clause_text}
-use Rattle.rst_certificate.specs.CertText.{clock_line, step_line, free_step_line, target_text, hop_text, blocked_line, freed_line, clause_line, query_word, entry_line}
+use Rattle.rst_certificate.specs.Words.{counted, digit, bits_text, place_digit, cube_text, literal_text}
+use Rattle.rst_certificate.specs.CertText.{target_text, hop_text, clause_line, query_word, entry_line}
 use Rattle.rst_cert_lines.specs.declared.lines.Shape.{Shape}
 use Rattle.rst_cert_lines.specs.declared.lines.Place.{Place}
 use Rattle.rst_cert_lines.specs.Fits.{IsLiteral, IsEarlier, HopFits, EntryFits}

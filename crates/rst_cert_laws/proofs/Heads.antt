@@ -1,5 +1,5 @@
 -- The header of a certificate is read as it is written.
-use Rattle.std.proofs.Common.{◌≡◌, ◌==◌, ◌≤◌, ◌<◌, ◌^◌, ◌-◌, ℕ, Bool, true, false, bytes_eq, nat_le, Option, None, Some, option_map, List, [], ◌∷◌, ◌++◌, codes, refl, sym, ap, ◌∙◌, arith}
+use Rattle.std.proofs.Common.{◌≡◌, ◌≤◌, ◌<◌, ◌^◌, ◌-◌, ℕ, Option, None, Some, option_map, List, [], ◌∷◌, codes, refl, ap, ◌∙◌, arith}
 use Rattle.std.specs.Prelude.{IfSome, IsTrue}
 use Rattle.std.proofs.lemmas.Bool.{le-leb}
 use Rattle.rst_lex.specs.Words.{is_name}
@@ -8,16 +8,12 @@ use Rattle.rst_verdict.specs.declared.verdict.Verdict.TheVariants.{SignedKnown, 
 use Rattle.rst_verdict.specs.declared.cert.Cert.{Cert}
 use Rattle.rst_certificate.specs.Words.{counted}
 use Rattle.rst_certificate.specs.CertText.{clock_line, kind_line, header_lines}
-use Rattle.rst_cert_lines.specs.Reading.{Read, after}
 use Rattle.rst_cert_lines.proofs.WordLaws.{after_again}
 use Rattle.rst_cert_reader.specs.declared.heading.HeadLine.{HeadLine}
 use Rattle.rst_cert_reader.specs.declared.heading.HeadLine.TheVariants.{Version, Form, Clock, Registers, Inputs, Outputs, Kind}
-use Rattle.rst_cert_reader.specs.declared.heading.CertKind.{CertKind}
 use Rattle.rst_cert_reader.specs.declared.heading.Heading.{Heading}
-use Rattle.rst_cert_reader.specs.declared.gathered.Gathered.{Gathered}
-use Rattle.rst_cert_reader.specs.declared.stage.Stage.{Stage}
 use Rattle.rst_cert_reader.specs.declared.stage.Stage.TheVariants.{Head, Begin}
-use Rattle.rst_cert_reader.specs.Headings.{number_in, version_of, version_in, name_behind, clock_in, kind_in, no_heading, with_line}
+use Rattle.rst_cert_reader.specs.Headings.{version_of, version_in, name_behind, clock_in, kind_in, no_heading, with_line}
 use Rattle.rst_cert_reader.specs.Readings.{Reading, first_section, stage_behind_head, nothing, with_head}
 use Rattle.rst_cert_laws.specs.Limits.{CertFits}
 use Rattle.rst_cert_laws.proofs.Breaks.{IsClear, clear_counted, clear_name}

@@ -1,5 +1,5 @@
 -- Lines that are read one behind the other.
-use Rattle.std.proofs.Common.{◌≡◌, ◌==◌, ◌+◌, ◌-◌, ◌≤◌, ◌<◌, ◌^◌, ℕ, suc, zero, Bool, true, false, not, cond, ◌&&◌, nat_le, bytes_eq, Option, None, Some, option_map, List, [], ◌∷◌, ◌++◌, length, map, codes, refl, sym, ap, subst, ◌∙◌, arith, append-nil, append_assoc}
+use Rattle.std.proofs.Common.{◌≡◌, ◌==◌, ◌-◌, ◌≤◌, ◌<◌, ◌^◌, ℕ, suc, Bool, true, false, not, cond, bytes_eq, Some, option_map, List, [], ◌∷◌, ◌++◌, length, map, codes, refl, sym, ap, subst, ◌∙◌, arith, append-nil, append_assoc}
 use Rattle.std.specs.Prelude.{⊤}
 use Rattle.std.specs.List.{flat_map, AllByRecursion}
 use Rattle.std.proofs.lemmas.Bool.{le-leb, eqb-true}
@@ -8,16 +8,15 @@ use Rattle.rst_cert_lines.specs.Readers.{counted_at}
 use Rattle.rst_cert_lines.specs.Reading.{Read}
 use Rattle.rst_cert_lines.proofs.Binds.{both_true}
 use Rattle.rst_cert_lines.proofs.LineLaws.{counted_again}
-use Rattle.rst_cert_reader.specs.declared.heading.HeadLine.{HeadLine}
 use Rattle.rst_cert_reader.specs.declared.heading.CertKind.{CertKind}
 use Rattle.rst_cert_reader.specs.declared.heading.Heading.{Heading}
 use Rattle.rst_cert_reader.specs.declared.gathered.Gathered.{Gathered}
 use Rattle.rst_cert_reader.specs.declared.section.Section.{Section}
 use Rattle.rst_cert_reader.specs.declared.stage.Stage.{Stage}
-use Rattle.rst_cert_reader.specs.declared.stage.Stage.TheVariants.{Head, Begin, Items, End, Closed, BadHead, Bad}
-use Rattle.rst_cert_reader.specs.Headings.{whole, at_most, number_in, with_line}
+use Rattle.rst_cert_reader.specs.declared.stage.Stage.TheVariants.{Begin, Items}
+use Rattle.rst_cert_reader.specs.Headings.{whole, at_most, number_in}
 use Rattle.rst_cert_reader.specs.Sections.{with_item, begun_by}
-use Rattle.rst_cert_reader.specs.Readings.{Reading, ReaderState, stage_behind, stage_behind_head, stage_with, taken, with_head, with_begun, with_more, next_number, line_fed, fed, fed_all}
+use Rattle.rst_cert_reader.specs.Readings.{Reading, ReaderState, stage_behind, stage_with, taken, with_begun, with_more, next_number, line_fed, fed, fed_all}
 use Rattle.rst_cert_laws.proofs.Breaks.{no_break, IsClear, clear_counted}
 
 -- what was read behind lines, where so many stand before

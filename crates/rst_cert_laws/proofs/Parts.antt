@@ -1,21 +1,20 @@
 -- The sections of a certificate are read as they are written.
-use Rattle.std.proofs.Common.{◌≡◌, ◌==◌, ◌+◌, ◌-◌, ◌≤◌, ◌<◌, ◌^◌, min, ℕ, ℤ, suc, Bool, true, false, ◌||◌, ◌&&◌, Option, None, Some, option_map, List, [], ◌∷◌, ◌++◌, length, map, codes, refl, sym, ap, ap₂, subst, ◌∙◌, arith, append-nil, length-append}
-use Rattle.std.specs.Prelude.{⊤}
+use Rattle.std.proofs.Common.{◌≡◌, ◌==◌, ◌+◌, ◌-◌, ◌≤◌, ◌<◌, ◌^◌, ℕ, ℤ, Bool, true, false, ◌||◌, Some, option_map, List, [], ◌∷◌, ◌++◌, length, codes, refl, sym, ap, ap₂, subst, ◌∙◌, arith, append-nil, length-append}
 use Rattle.std.specs.List.{list_all, AllByRecursion}
 use Rattle.rst_value.specs.declared.tern.Tern.{Tern}
 use Rattle.rst_value.specs.declared.tern.Tern.TheVariants as terns
-use Rattle.rst_gate.specs.Patterns.{free_of, free_count, free_bits}
+use Rattle.rst_gate.specs.Patterns.{free_count, free_bits}
 use Rattle.rst_pair.specs.declared.hop.Hop.{Hop}
 use Rattle.rst_pair.specs.declared.journal.Entry.{Entry}
 use Rattle.rst_pair.specs.declared.journal.Entry.TheVariants as entries
 use Rattle.rst_verdict.specs.declared.verdict.Verdict.{Verdict}
 use Rattle.rst_verdict.specs.declared.verdict.Verdict.TheVariants.{SignedKnown, SignedRelation, Refuted, Never, Alignable, Unknown}
-use Rattle.rst_certificate.specs.Words.{counted, bits_text}
+use Rattle.rst_certificate.specs.Words.{bits_text}
 use Rattle.rst_certificate.specs.CertText.{step_line, free_step_line, hop_text, blocked_line, freed_line, clause_line, entry_line, pattern_lines, sequence_lines, word_lines, blocked_lines, freed_lines, log_lines, journal_lines, equal_lines, pair_lines, part_lines, free_bits_of}
 use Rattle.rst_cert_lines.specs.declared.lines.Shape.{Shape}
 use Rattle.rst_cert_lines.specs.declared.lines.Place.{Place}
 use Rattle.rst_cert_lines.specs.Reading.{Read}
-use Rattle.rst_cert_lines.specs.Readers.{step_at, free_step_at, state_at, clause_at, hop_line_at, entry_at}
+use Rattle.rst_cert_lines.specs.Readers.{step_at, free_step_at, state_at, hop_line_at}
 use Rattle.rst_cert_lines.specs.Fits.{IsLiteral, HopFits, EntryFits}
 use Rattle.rst_cert_lines.proofs.LineLaws.{step_again, free_step_again, state_again}
 use Rattle.rst_cert_lines.proofs.ClauseLaws.{clause_again}
@@ -25,15 +24,13 @@ use Rattle.rst_cert_reader.specs.declared.heading.CertKind.{CertKind}
 use Rattle.rst_cert_reader.specs.declared.heading.CertKind.TheVariants as kinds
 use Rattle.rst_cert_reader.specs.declared.heading.Heading.{Heading}
 use Rattle.rst_cert_reader.specs.declared.gathered.Gathered.{Gathered}
-use Rattle.rst_cert_reader.specs.declared.section.Section.{Section}
 use Rattle.rst_cert_reader.specs.declared.section.Section.TheVariants.{FreeSteps, Steps, Word, Equal, StateA, StateB, Blocked, Freed, SplitLog, LandLog, EscapeLog, StuckLog, Journal}
-use Rattle.rst_cert_reader.specs.declared.stage.Stage.{Stage}
 use Rattle.rst_cert_reader.specs.declared.stage.Stage.TheVariants.{Begin, End}
 use Rattle.rst_cert_reader.specs.Headings.{whole}
-use Rattle.rst_cert_reader.specs.Sections.{is_known, free_where, shape_of, marked_behind, before_of, blocked_behind, freed_behind, place_of, with_entry, with_free_step, with_step, with_word, with_blocked, with_freed, with_first, with_second, with_work, with_item, with_equal, with_a, with_b, begun_by}
-use Rattle.rst_cert_reader.specs.Readings.{Reading, first_section, stage_behind, nothing, verdict_of}
-use Rattle.rst_cert_laws.specs.Limits.{PatternFits, SequenceFits, WordFits, EachHopFits, HopsFit, LogFits, place_behind, EachEntryFits, first_place, JournalFits, StateFits, EvidenceFits}
-use Rattle.rst_cert_laws.proofs.Breaks.{IsClear, clear_both, clear_bits, clear_places, clear_clause, clear_hop, clear_entry}
+use Rattle.rst_cert_reader.specs.Sections.{is_known, free_where, shape_of, marked_behind, before_of, blocked_behind, freed_behind, place_of, with_entry, with_free_step, with_step, with_word, with_blocked, with_freed, with_first, with_second, with_work, with_equal, with_a, with_b}
+use Rattle.rst_cert_reader.specs.Readings.{first_section, stage_behind, nothing, verdict_of}
+use Rattle.rst_cert_laws.specs.Limits.{PatternFits, SequenceFits, WordFits, EachHopFits, HopsFit, LogFits, place_behind, EachEntryFits, first_place, JournalFits, EvidenceFits}
+use Rattle.rst_cert_laws.proofs.Breaks.{clear_bits, clear_places, clear_clause, clear_hop, clear_entry}
 use Rattle.rst_cert_laws.proofs.Lines.{Goes, goes_both, stands, EachBehind, list_goes, line_goes}
 
 -- what fits alone fits behind others

@@ -1,23 +1,19 @@
 -- A certificate's text is read back as the certificate.
-use Rattle.std.proofs.Common.{◌≡◌, ◌==◌, ◌≤◌, ℕ, zero, suc, Bool, true, false, ◌&&◌, bytes_eq, List, [], ◌∷◌, ◌++◌, codes, refl, sym, ap, ◌∙◌, arith, if◌then◌else◌}
-use Rattle.std.specs.Prelude.{Result, Ok, Err}
-use Rattle.std.specs.List.{flat_map}
+use Rattle.std.proofs.Common.{◌≡◌, ◌==◌, ◌≤◌, ℕ, zero, suc, Bool, true, false, List, [], ◌∷◌, ◌++◌, codes, refl, ap, ◌∙◌, arith}
+use Rattle.std.specs.Prelude.{Ok}
 use Rattle.std.proofs.lemmas.Bool.{eq-eqb}
 use Rattle.rst_verdict.specs.declared.verdict.Verdict.{Verdict}
 use Rattle.rst_verdict.specs.declared.cert.Cert.{Cert}
-use Rattle.rst_certificate.specs.Words.{line}
 use Rattle.rst_certificate.specs.CertText.{header_lines, part_lines, cert_lines, cert_text, free_bits_of}
 use Rattle.rst_cert_reader.specs.declared.heading.HeadLine.TheVariants.{Version}
 use Rattle.rst_cert_reader.specs.declared.heading.Heading.{Heading}
 use Rattle.rst_cert_reader.specs.declared.gathered.Gathered.{Gathered}
 use Rattle.rst_cert_reader.specs.declared.stage.Stage.TheVariants.{Head, Begin, End, Closed}
-use Rattle.rst_cert_reader.specs.declared.reader.CertFault.{CertFault}
-use Rattle.rst_cert_reader.specs.declared.reader.CertFault.TheVariants.{Cut}
 use Rattle.rst_cert_reader.specs.Headings.{no_heading}
-use Rattle.rst_cert_reader.specs.Readings.{Reading, ReaderState, start, first_section, nothing, verdict_of, cert_from, fed_all, by_stage, finished, cert_of}
+use Rattle.rst_cert_reader.specs.Readings.{Reading, first_section, nothing, cert_from, finished, cert_of}
 use Rattle.rst_cert_laws.specs.Limits.{CertFits}
 use Rattle.rst_cert_laws.proofs.Lines.{Goes, goes_none, goes_step, goes_both, stands, at, reading_behind, number_behind, ends_behind, ends_both, lines_are_fed}
-use Rattle.rst_cert_laws.proofs.Parts.{kind_of, PartsGo, parts_go}
+use Rattle.rst_cert_laws.proofs.Parts.{kind_of, parts_go}
 use Rattle.rst_cert_laws.proofs.Heads.{heading_of, head_goes}
 
 not_both : (x : Bool) → x ≡ true → x ≡ false → ⊥

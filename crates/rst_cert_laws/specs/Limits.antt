@@ -1,5 +1,5 @@
 -- The certificates within the format's limits.
-use Rattle.std.specs.Prelude.{◌≡◌, ◌==◌, ◌≤◌, ◌<◌, ◌+◌, ◌^◌, ℕ, ℤ, Bool, ⊤, Option, IfSome, IsTrue, List, [], ◌∷◌, length}
+use Rattle.std.specs.Prelude.{◌≡◌, ◌==◌, ◌≤◌, ◌<◌, ◌+◌, ◌^◌, ℕ, ℤ, Bool, ⊤, IfSome, IsTrue, List, [], ◌∷◌, length}
 use Rattle.std.specs.List.{AllByRecursion}
 use Rattle.rst_lex.specs.Words.{is_name}
 use Rattle.rst_value.specs.declared.tern.Tern.{Tern}
