@@ -16,12 +16,12 @@ use Rattle.rst_cert_reader.specs.declared.gathered.Gathered.{Gathered}
 use Rattle.rst_cert_reader.specs.declared.section.Section.{Section}
 use Rattle.rst_cert_reader.specs.declared.section.Section.TheVariants.{FreeSteps, Steps, Word, Equal, StateA, StateB, Blocked, Freed, SplitLog, LandLog, EscapeLog, StuckLog, Journal}
 use Rattle.rst_cert_reader.specs.declared.stage.Stage.{Stage}
-use Rattle.rst_cert_reader.specs.declared.stage.Stage.TheVariants.{Head, Begin, Items, End, Closed, BadHead, Bad}
+use Rattle.rst_cert_reader.specs.declared.stage.Stage.TheVariants.{Head, Begin, Items, Endless, End, Closed, BadHead, Bad}
 use Rattle.rst_cert_reader.specs.declared.reader.CertFault.{CertFault}
 use Rattle.rst_cert_reader.specs.declared.reader.CertFault.TheVariants.{Cut}
 use Rattle.rst_cert_reader.specs.Headings.{with_line}
-use Rattle.rst_cert_reader.specs.Sections.{with_item, begun_by}
-use Rattle.rst_cert_reader.specs.Readings.{first_section, stage_behind, stage_behind_head, Reading, with_head, with_begun, with_more, bad_line, taken, verdict_of, cert_from, ReaderState, start, next_number, line_fed, fed, fed_all, by_stage, cert_of}
+use Rattle.rst_cert_reader.specs.Sections.{with_item, begun_by, is_clause, is_long_log}
+use Rattle.rst_cert_reader.specs.Readings.{first_section, stage_behind, stage_behind_head, Reading, with_head, with_begun, with_more, bad_line, endless, taken, verdict_of, cert_from, ReaderState, start, next_number, line_fed, fed, fed_all, by_stage, cert_of}
 use Rattle.rst_cert_reader.proofs.Written.{section_lines, lines_of, before, all_of, IsOf, FollowsOn, follows_on}
 use Rattle.rst_cert_reader.proofs.Adding.{begins, goes_on}
 use Rattle.rst_cert_reader.proofs.Headers.{head_before, head_all, head_behind, heads_on}
@@ -37,6 +37,7 @@ Holds text h g (Begin section) partial = IsText text (head_all h ++ lines_of (be
 Holds text h g (Items section left) partial = IsText text (head_all h ++ (lines_of (before h.kind section) g ++ section_lines section g left)) partial × IsOf h.kind section × (0 < left)
 Holds text h g End partial = IsText text (head_all h ++ lines_of (all_of h.kind) g) partial
 Holds text h g Closed partial = IsText text (head_all h ++ (lines_of (all_of h.kind) g ++ codes "end" ∷ [])) partial
+Holds text h g Endless partial = Unit {0}
 Holds text h g BadHead partial = Unit {0}
 Holds text h g (Bad number) partial = Unit {0}
 
@@ -65,6 +66,7 @@ behind_section text h g sections (Begin section) follows is =
 behind_section text h g sections End follows is = subst (λ (s : List Section). IsText text (head_all h ++ lines_of s g) []) (sym follows) is
 behind_section text h g sections (Head due) follows is = absurd follows
 behind_section text h g sections (Items section left) follows is = absurd follows
+behind_section text h g sections Endless follows is = absurd follows
 behind_section text h g sections Closed follows is = absurd follows
 behind_section text h g sections BadHead follows is = absurd follows
 behind_section text h g sections (Bad number) follows is = absurd follows
@@ -112,9 +114,13 @@ head_taken text h g due partial (Some new) e is =
     head_stage (text ++ 10 ∷ []) new g due
     (subst (λ (lines : List (List ℕ)). IsText (text ++ 10 ∷ []) lines []) (sym (heads_on due h new partial (sym e))) (line_ends text (head_before due h) partial is))
 
+endless_taken : (x : Bool) (text : List ℕ) (number : ℕ) → HoldsFor text (if x then endless else bad_line number)
+endless_taken true text number = tt
+endless_taken false text number = tt
+
 first_taken : (text : List ℕ) (h : Heading) (g : Gathered) (section : Section) (number : ℕ) (partial : List ℕ) (read : Option (Gathered × ℕ)) → read ≡ begun_by h section g partial
-    → IsOf h.kind section → IsText text (head_all h ++ lines_of (before h.kind section) g) partial → HoldsFor (text ++ 10 ∷ []) (with_begun h section number read)
-first_taken text h g section number partial None e of is = tt
+    → IsOf h.kind section → IsText text (head_all h ++ lines_of (before h.kind section) g) partial → HoldsFor (text ++ 10 ∷ []) (with_begun h section number partial read)
+first_taken text h g section number partial None e of is = endless_taken (is_long_log section partial) (text ++ 10 ∷ []) number
 first_taken text h g section number partial (Some (new, count)) e of is =
     let says = begins h section g new count partial (sym e) in
     let lines = before h.kind section in
@@ -156,6 +162,7 @@ line_taken : (text : List ℕ) (h : Heading) (g : Gathered) (stage : Stage) (num
 line_taken text h g (Head due) number partial is = head_taken text h g due partial (with_line due h partial) refl is
 line_taken text h g (Begin section) number partial is = first_taken text h g section number partial (begun_by h section g partial) refl is.1 is.0
 line_taken text h g (Items section left) number partial is = item_taken text h g section left number partial (with_item h section g partial) refl is.1 is.2 is.0
+line_taken text h g Endless number partial is = endless_taken (is_clause partial) (text ++ 10 ∷ []) number
 line_taken text h g End number partial is = end_taken (bytes_eq partial (codes "end")) text h g number partial refl is
 line_taken text h g Closed number partial is = tt
 line_taken text h g BadHead number partial is = tt
@@ -168,6 +175,7 @@ byte_held text h g (Items section left) partial byte is =
     (byte_goes text (head_all h ++ (lines_of (before h.kind section) g ++ section_lines section g left)) partial byte is.0, is.1, is.2)
 byte_held text h g End partial byte is = byte_goes text (head_all h ++ lines_of (all_of h.kind) g) partial byte is
 byte_held text h g Closed partial byte is = byte_goes text (head_all h ++ (lines_of (all_of h.kind) g ++ codes "end" ∷ [])) partial byte is
+byte_held text h g Endless partial byte is = tt
 byte_held text h g BadHead partial byte is = tt
 byte_held text h g (Bad number) partial byte is = tt
 
@@ -276,6 +284,7 @@ unfolding cert_text
 by_stage_ok text s (Head due) cert e none is = absurd (no_ok _ cert e)
 by_stage_ok text s (Begin section) cert e none is = absurd (no_ok _ cert e)
 by_stage_ok text s (Items section left) cert e none is = absurd (no_ok _ cert e)
+by_stage_ok text s Endless cert e none is = absurd (no_ok _ cert e)
 by_stage_ok text s End cert e none is = absurd (no_ok _ cert e)
 by_stage_ok text s BadHead cert e none is = absurd (no_ok _ cert e)
 by_stage_ok text s (Bad number) cert e none is = absurd (no_ok _ cert e)

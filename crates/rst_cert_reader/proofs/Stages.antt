@@ -9,7 +9,7 @@ use Rattle.rst_cert_reader.specs.declared.gathered.Gathered.{Gathered}
 use Rattle.rst_cert_reader.specs.declared.section.Section.{Section}
 use Rattle.rst_cert_reader.specs.declared.section.Section.TheVariants.{FreeSteps, Steps, Word, Equal, StateA, StateB, Blocked, Freed, SplitLog, LandLog, EscapeLog, StuckLog, Journal}
 use Rattle.rst_cert_reader.specs.declared.stage.Stage.{Stage}
-use Rattle.rst_cert_reader.specs.declared.stage.Stage.TheVariants.{Head, Begin, Items, End, Closed, BadHead, Bad}
+use Rattle.rst_cert_reader.specs.declared.stage.Stage.TheVariants.{Head, Begin, Items, Endless, End, Closed, BadHead, Bad}
 use Rattle.rst_cert_reader.specs.Readings.{Reading, stage_behind, stage_behind_head, stage_with, told, taken, ReaderState, fed, fed_all}
 
 -- whatever is due, but no fault
@@ -107,6 +107,7 @@ pub taken_told : (heading : Heading) (gathered : Gathered) (stage : Stage) (numb
 taken_told heading gathered (Head due) number line = refl
 taken_told heading gathered (Begin section) number line = refl
 taken_told heading gathered (Items section left) number line = refl
+taken_told heading gathered Endless number line = refl
 taken_told heading gathered End number line = refl
 taken_told heading gathered Closed number line = refl
 taken_told heading gathered BadHead number line = refl

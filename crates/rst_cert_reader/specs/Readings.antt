@@ -12,11 +12,11 @@ use Rattle.rst_cert_reader.specs.declared.gathered.Gathered.{Gathered}
 use Rattle.rst_cert_reader.specs.declared.section.Section.{Section}
 use Rattle.rst_cert_reader.specs.declared.section.Section.TheVariants.{FreeSteps, Steps, Word, Equal, StateA, StateB, Blocked, Freed, SplitLog, LandLog, EscapeLog, StuckLog, Journal}
 use Rattle.rst_cert_reader.specs.declared.stage.Stage.{Stage}
-use Rattle.rst_cert_reader.specs.declared.stage.Stage.TheVariants.{Head, Begin, Items, End, Closed, BadHead, Bad}
+use Rattle.rst_cert_reader.specs.declared.stage.Stage.TheVariants.{Head, Begin, Items, Endless, End, Closed, BadHead, Bad}
 use Rattle.rst_cert_reader.specs.declared.reader.CertFault.{CertFault}
 use Rattle.rst_cert_reader.specs.declared.reader.CertFault.TheVariants.{BadHeader, BadLine, Cut, NoMemory}
 use Rattle.rst_cert_reader.specs.Headings.{no_heading, with_line}
-use Rattle.rst_cert_reader.specs.Sections.{with_item, begun_by}
+use Rattle.rst_cert_reader.specs.Sections.{with_item, begun_by, is_clause, is_long_log}
 
 -- the sections of a kind, one behind the other
 
@@ -93,10 +93,11 @@ pub record Reading : Type 0 where
   pub gathered : Gathered
   pub stage : Stage
 
--- behind a fault nothing else is told
+-- behind a fault, or where one is sure to come, nothing else is told
 abbrev pub told : Heading → Gathered → Stage → Reading
 told heading gathered BadHead = record { heading = no_heading; gathered = nothing; stage = BadHead }
 told heading gathered (Bad number) = record { heading = no_heading; gathered = nothing; stage = Bad number }
+told heading gathered Endless = record { heading = no_heading; gathered = nothing; stage = Endless }
 told heading gathered (Head line) = record { heading = heading; gathered = gathered; stage = Head line }
 told heading gathered (Begin section) = record { heading = heading; gathered = gathered; stage = Begin section }
 told heading gathered (Items section left) = record { heading = heading; gathered = gathered; stage = Items section left }
@@ -113,9 +114,13 @@ abbrev pub with_head : HeadLine → Gathered → Option Heading → Reading
 with_head due gathered None = bad_head
 with_head due gathered (Some heading) = record { heading = heading; gathered = gathered; stage = stage_behind_head due heading.kind }
 
-abbrev pub with_begun : Heading → Section → ℕ → Option (Gathered × ℕ) → Reading
-with_begun heading section number None = bad_line number
-with_begun heading section number (Some begun) = record { heading = heading; gathered = begun.0; stage = stage_with heading.kind section begun.1 }
+-- a log of 2^64 clauses or more is due, which no text has: the first line that isn't a clause is at fault
+abbrev pub endless : Reading
+endless = record { heading = no_heading; gathered = nothing; stage = Endless }
+
+abbrev pub with_begun : Heading → Section → ℕ → List ℕ → Option (Gathered × ℕ) → Reading
+with_begun heading section number line None = if is_long_log section line then endless else bad_line number
+with_begun heading section number line (Some begun) = record { heading = heading; gathered = begun.0; stage = stage_with heading.kind section begun.1 }
 
 abbrev pub with_more : Heading → Section → ℕ → ℕ → Option Gathered → Reading
 with_more heading section left number None = bad_line number
@@ -124,8 +129,9 @@ with_more heading section left number (Some gathered) = record { heading = headi
 -- what was read behind one more line, that of this number
 abbrev pub taken : Heading → Gathered → Stage → ℕ → List ℕ → Reading
 taken heading gathered (Head due) number line = with_head due gathered (with_line due heading line)
-taken heading gathered (Begin section) number line = with_begun heading section number (begun_by heading section gathered line)
+taken heading gathered (Begin section) number line = with_begun heading section number line (begun_by heading section gathered line)
 taken heading gathered (Items section left) number line = with_more heading section left number (with_item heading section gathered line)
+taken heading gathered Endless number line = if is_clause line then endless else bad_line number
 taken heading gathered End number line = if bytes_eq line (codes "end") then record { heading = heading; gathered = gathered; stage = Closed } else bad_line number
 taken heading gathered Closed number line = bad_line number
 taken heading gathered BadHead number line = bad_head
@@ -188,6 +194,7 @@ by_stage s (Bad number) = Err (BadLine number)
 by_stage s Closed = Ok (cert_from s.reading.heading s.reading.gathered)
 by_stage s (Begin section) = Err (BadLine s.number)
 by_stage s (Items section left) = Err (BadLine s.number)
+by_stage s Endless = Err (BadLine s.number)
 by_stage s End = Err (BadLine s.number)
 
 -- what the bytes are: cut where their last line isn't `end`

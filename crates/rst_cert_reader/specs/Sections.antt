@@ -1,5 +1,5 @@
 -- The evidence of a certificate, section by section.
-use Rattle.std.specs.Prelude.{◌≡◌, ◌==◌, ◌||◌, ◌^◌, ◌+◌, ◌-◌, min, ℕ, Bool, true, false, Option, None, Some, option_map, Result, Ok, Err, ⊤, List, [], ◌∷◌, ◌++◌, length, codes, if◌then◌else◌}
+use Rattle.std.specs.Prelude.{◌≡◌, ◌==◌, ◌&&◌, ◌||◌, not, is_some, nat_le, bytes_eq, take, ◌^◌, ◌+◌, ◌-◌, min, ℕ, Bool, true, false, Option, None, Some, option_map, Result, Ok, Err, ⊤, List, [], ◌∷◌, ◌++◌, length, codes, if◌then◌else◌}
 use Rattle.std.specs.List.{list_all}
 use Rattle.rst_value.specs.declared.tern.Tern.{Tern}
 use Rattle.rst_value.specs.declared.tern.Tern.TheVariants.{Zero, One, Unknown}
@@ -9,6 +9,7 @@ use Rattle.rst_cert_lines.specs.declared.cursor.LineFault.{LineFault}
 use Rattle.rst_cert_lines.specs.declared.cursor.LineFault.TheVariants.{Wrong, NoMemory}
 use Rattle.rst_cert_lines.specs.declared.lines.Shape.{Shape}
 use Rattle.rst_cert_lines.specs.declared.lines.Place.{Place}
+use Rattle.rst_cert_lines.specs.Reading.{Read, after}
 use Rattle.rst_cert_lines.specs.Readers.{step_at, free_step_at, state_at, clause_at, hop_line_at, entry_at}
 use Rattle.rst_cert_reader.specs.declared.heading.Heading.{Heading}
 use Rattle.rst_cert_reader.specs.declared.gathered.Gathered.{Gathered}
@@ -111,6 +112,10 @@ with_item h Equal g line = None
 with_item h StateA g line = None
 with_item h StateB g line = None
 
+-- the line is a clause of a log
+unfoldable pub is_clause : List ℕ → Bool
+is_clause line = is_some (whole (clause_at line))
+
 -- the first line of a section: what was gathered behind it, and how many lines follow
 
 unfoldable pub with_equal : Heading → Gathered → List ℕ → Option (Gathered × ℕ)
@@ -136,6 +141,25 @@ begun_by h Journal g line = option_map (λ (count : ℕ). (record g { journal = 
 begun_by h Equal g line = with_equal h g line
 begun_by h StateA g line = with_a h g line
 begun_by h StateB g line = with_b h g line
+
+abbrev pub is_digit : ℕ → Bool
+is_digit c = nat_le 48 c && nat_le c 57
+
+-- twenty decimal digits or more, without leading zeros
+abbrev pub is_long_number : List ℕ → Bool
+is_long_number digits = nat_le 20 (length digits) && list_all is_digit digits && not (bytes_eq (take 1 digits) (codes "0"))
+
+abbrev pub is_long_behind : Read (Unit {0}) → Bool
+is_long_behind None = false
+is_long_behind (Some it) = is_long_number it.1
+
+-- the first line of a log with a long number of clauses
+unfoldable pub is_long_log : Section → List ℕ → Bool
+is_long_log SplitLog line = is_long_behind (after (codes "log split ") line)
+is_long_log LandLog line = is_long_behind (after (codes "log land ") line)
+is_long_log EscapeLog line = is_long_behind (after (codes "log escape ") line)
+is_long_log StuckLog line = is_long_behind (after (codes "log stuck ") line)
+is_long_log _ line = false
 
 abbrev pub BeginsAs : Option (Gathered × ℕ) → Result ℕ LineFault → Gathered → Type 0
 BeginsAs made (Ok count) new = made ≡ Some (new, count)

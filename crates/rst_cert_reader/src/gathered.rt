@@ -1,10 +1,11 @@
 // What was read of the evidence.
-ghost use Rattle.std.specs.Prelude.{◌≡◌, ◌+◌, ◌^◌, ◌-◌, min, length, codes};
+ghost use Rattle.std.specs.Prelude.{◌≡◌, IfOk, ◌+◌, ◌^◌, ◌-◌, min, length, codes};
 ghost use Rattle.std.specs.List.{list_all};
 ghost use Rattle.rst_cert_lines.specs.Readers.{step_at, free_step_at, state_at, clause_at, hop_line_at, entry_at};
 ghost use Rattle.rst_cert_reader.specs.Headings.{Gives, Becomes, whole, number_in};
 ghost use Rattle.rst_cert_reader.specs.Readings.{nothing};
-ghost use Rattle.rst_cert_reader.specs.Sections.{is_known, free_where, before_of, marked_behind, blocked_behind, freed_behind, shape_of, place_of, with_entry, with_free_step, with_step, with_word, with_blocked, with_freed, with_first, with_second, with_work, with_item, with_equal, with_a, with_b, begun_by, BeginsAs};
+ghost use Rattle.rst_cert_reader.specs.Sections.{is_known, free_where, before_of, marked_behind, blocked_behind, freed_behind, shape_of, place_of, with_entry, with_free_step, with_step, with_word, with_blocked, with_freed, with_first, with_second, with_work, with_item, with_equal, with_a, with_b, begun_by, BeginsAs, is_clause, is_digit, is_long_number, is_long_behind, is_long_log};
+ghost use Rattle.rst_cert_lines.specs.Reading.{after};
 
 use crate::heading::{Heading, read_number};
 use crate::section::Section;
@@ -13,6 +14,7 @@ use rst_cert_lines::{
 };
 use rst_clause::{Clause, Log};
 use rst_gate::{Bits, Cube, Pattern, Sequence};
+use rst_outside::NoMemory;
 use rst_pair::{Entry, Hop, Journal};
 use rst_value::Tern;
 use rst_verdict::Hops;
@@ -177,6 +179,65 @@ fn whole_entry(alloc: Global, place: Place, line: &[u8]) -> Result<Entry, LineFa
         Ok(found)
     } else {
         Err(LineFault::Wrong)
+    }
+}
+
+/// Whether the line is a clause of a log.
+#[tactic(auto, unfolding(crate::specs::Sections::is_clause))]
+pub(crate) fn is_clause(alloc: Global, line: &[u8]) -> Result<bool, NoMemory>
+    ensures { IfOk result (λ is. is ≡ is_clause line.now) }
+{
+    match whole_clause(alloc, line) {
+        Ok(clause) => {
+            drop(clause);
+            Ok(true)
+        }
+        Err(LineFault::Wrong) => Ok(false),
+        Err(LineFault::NoMemory) => Err(NoMemory),
+    }
+}
+
+fn is_digit(digit: u8) -> bool
+    ensures { result ≡ is_digit digit }
+{
+    48 <= digit && digit <= 57
+}
+
+fn are_digits(digits: &[u8]) -> bool
+    ensures { result ≡ list_all is_digit digits.now }
+{
+    digits.iter().all(|digit| is_digit(*digit))
+}
+
+// Whether these are twenty decimal digits or more, without leading zeros.
+fn is_long_number(digits: &[u8]) -> bool
+    ensures { result ≡ is_long_number digits.now }
+{
+    digits.len() >= 20 && are_digits(digits) && &digits[..1] != b"0".as_slice()
+}
+
+// Whether the line is this word and a long number.
+fn is_long_behind(word: &[u8], line: &[u8]) -> bool
+    ensures { result ≡ is_long_behind (after word.now line.now) }
+{
+    let mut cursor = Cursor::new(line);
+    match cursor.after(word) {
+        Ok(()) => is_long_number(cursor.rest()),
+        Err(_) => false,
+    }
+}
+
+/// Whether the line is the first of a log with a long number of clauses.
+#[tactic(auto, unfolding(crate::specs::Sections::is_long_log))]
+pub(crate) fn is_long_log(section: Section, line: &[u8]) -> bool
+    ensures { result ≡ is_long_log section line.now }
+{
+    match section {
+        Section::SplitLog => is_long_behind(b"log split ", line),
+        Section::LandLog => is_long_behind(b"log land ", line),
+        Section::EscapeLog => is_long_behind(b"log escape ", line),
+        Section::StuckLog => is_long_behind(b"log stuck ", line),
+        _ => false,
     }
 }
 

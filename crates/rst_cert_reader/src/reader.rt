@@ -133,9 +133,9 @@ impl CertReader {
         match self.stage {
             Stage::Head(_) | Stage::BadHead => Some(CertFault::BadHeader),
             Stage::Bad(number) => Some(CertFault::BadLine(number)),
-            Stage::Begin(_) | Stage::Items(_, _) | Stage::End => Some(CertFault::BadLine(
-                self.number,
-            )),
+            Stage::Begin(_) | Stage::Items(_, _) | Stage::Endless | Stage::End => Some(
+                CertFault::BadLine(self.number),
+            ),
             Stage::Closed => None,
         }
     }

@@ -1,11 +1,12 @@
 // What is due in a certificate.
-ghost use Rattle.std.specs.Prelude.{◌≡◌, IfOk};
+ghost use Rattle.std.specs.Prelude.{◌≡◌, IfOk, if◌then◌else◌};
 ghost use Rattle.rst_cert_reader.specs.declared.gathered.Gathered.{Gathered};
 ghost use Rattle.rst_cert_reader.specs.Headings.{with_line};
-ghost use Rattle.rst_cert_reader.specs.Sections.{with_item, begun_by};
-ghost use Rattle.rst_cert_reader.specs.Readings.{first_section, stage_behind, stage_behind_head, stage_with, told, with_head, with_begun, with_more, taken};
+ghost use Rattle.rst_cert_reader.specs.Sections.{with_item, begun_by, is_clause, is_long_log};
+ghost use Rattle.rst_cert_reader.specs.Readings.{first_section, stage_behind, stage_behind_head, stage_with, told, with_head, with_begun, with_more, taken, endless, bad_line};
+ghost use Rattle.rst_cert_reader.specs.declared.heading.Heading.{Heading};
 
-use crate::gathered::Gathered;
+use crate::gathered::{Gathered, is_clause, is_long_log};
 use crate::heading::{CertKind, HeadLine, Heading};
 use crate::section::Section;
 use rst_cert_lines::LineFault;
@@ -21,6 +22,8 @@ pub enum Stage {
     Begin(Section),
     /// So many lines of a section.
     Items(Section, u64),
+    /// Clauses of a log that are more than any text has.
+    Endless,
     /// The line `end`.
     End,
     /// Nothing.
@@ -166,10 +169,11 @@ fn take_first(
     number: u32,
     line: &[u8],
 ) -> Result<Stage, NoMemory>
-    ensures { IfOk result (λ next. told heading.now gathered.new next ≡ with_begun heading.now section number (begun_by heading.now section gathered.old line.now)) }
+    ensures { IfOk result (λ next. told heading.now gathered.new next ≡ with_begun heading.now section number line.now (begun_by heading.now section gathered.old line.now)) }
 {
     match gathered.read_first_line(alloc, heading, section, line) {
         Ok(count) => Ok(stage_with(heading.kind, section, count)),
+        Err(LineFault::Wrong) if is_long_log(section, line) => Ok(Stage::Endless),
         Err(LineFault::Wrong) => Ok(Stage::Bad(number)),
         Err(LineFault::NoMemory) => Err(NoMemory),
     }
@@ -194,6 +198,17 @@ fn take_item(
     }
 }
 
+// Reads a line where clauses of a log are due without an end.
+fn take_clause(alloc: Global, number: u32, line: &[u8]) -> Result<Stage, NoMemory>
+    ensures { IfOk result (λ next. (heading : Heading) → (gathered : Gathered) → told heading gathered next ≡ (if is_clause line.now then endless else bad_line number)) }
+{
+    if is_clause(alloc, line)? {
+        Ok(Stage::Endless)
+    } else {
+        Ok(Stage::Bad(number))
+    }
+}
+
 /// Reads the line of this number, and answers what is due behind it.
 pub(crate) fn take(
     alloc: Global,
@@ -211,6 +226,7 @@ pub(crate) fn take(
         Stage::Items(section, left) => {
             take_item(alloc, heading, gathered, section, left, number, line)
         }
+        Stage::Endless => take_clause(alloc, number, line),
         Stage::End if line == b"end".as_slice() => Ok(Stage::Closed),
         Stage::End | Stage::Closed => Ok(Stage::Bad(number)),
         Stage::BadHead | Stage::Bad(_) => Ok(stage),

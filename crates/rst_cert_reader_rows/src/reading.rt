@@ -174,7 +174,7 @@ const KNOWN_LINES: [LineChange; 10] = [
     (b"end\n", b"end\nend\n", 13),
 ];
 
-const RELATION_LINES: [LineChange; 7] = [
+const RELATION_LINES: [LineChange; 10] = [
     (b"equal =10", b"equal =1-", 10),
     (b"blocked 2", b"blocked 100001", 11),
     (b"via =0 to 0", b"via =0 to 1", 13),
@@ -182,6 +182,9 @@ const RELATION_LINES: [LineChange; 7] = [
     (b"-2 2147483647", b"-0 2147483647", 15),
     (b"-2 2147483647", b"-2 2147483648", 15),
     (b"log split 2", b"log split 99999", 17),
+    (b"log split 2", b"log split 18446744073709551615", 17),
+    (b"log split 2", b"log split 18446744073709551616", 17),
+    (b"log split 2", b"log split 018446744073709551616", 14),
 ];
 
 #[test]

@@ -49,12 +49,12 @@ pub record AddsLines (old new : List Section) (lines : List (List ℕ)) : Type 0
   pub appended : lines_of new ≡ lines_of old ++ lines
 
 -- what is still to be given of a text, and a bound on the work of it
-pub record TodoState : Type 0 where
+pub record UnwrittenState : Type 0 where
   pub text : List ℕ
   pub work : ℕ
 
-abbrev pub todo_state : LineState → List Section → TodoState
-todo_state state sections = record {
+abbrev pub unwritten_state : LineState → List Section → UnwrittenState
+unwritten_state state sections = record {
   text = state.text ++ flat_map section_text sections;
   work = line_work state + (32 * length (flat_map section_text sections) + length sections);
 }

@@ -7,7 +7,7 @@ mod line;
 mod piece;
 mod plan;
 mod section;
-mod todo;
+mod unwritten;
 mod writer;
 
 pub use giving::give_cert;

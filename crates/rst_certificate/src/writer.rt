@@ -8,7 +8,7 @@ ghost use Rattle.rst_certificate.specs.Writing.{left_of, IsNext, behind};
 
 use crate::piece::Piece;
 use crate::plan::plan;
-use crate::todo::Todo;
+use crate::unwritten::Unwritten;
 use rst_outside::{Bytes, NoMemory};
 use rst_verdict::Cert;
 use std::alloc::Global;
@@ -20,7 +20,7 @@ use std::marker::Model;
 #[derive(Drop)]
 pub struct CertWriter<'a> {
     cert: &'a Cert,
-    todo: Todo<'a>,
+    unwritten: Unwritten<'a>,
     piece: Piece,
 }
 
@@ -32,9 +32,9 @@ impl<'a> Model for CertWriter<'a> {
 
     ghost Value = { Writing };
 
-    ghost view = { λ w. record { cert = w.cert.now; given = length (cert_text w.cert.now) - length w.todo.text } };
+    ghost view = { λ w. record { cert = w.cert.now; given = length (cert_text w.cert.now) - length w.unwritten.text } };
 
-    ghost invariant = { λ w. EndsIn (cert_text w.cert.now) w.todo.text };
+    ghost invariant = { λ w. EndsIn (cert_text w.cert.now) w.unwritten.text };
 }
 
 impl<'a> CertWriter<'a> {
@@ -47,9 +47,13 @@ impl<'a> CertWriter<'a> {
         ensures { IfOk result (λ writer. writer ≡ record { cert = cert.now; given = 0 }) }
     {
         let sections = plan(alloc, cert)?;
-        let todo = Todo::new(alloc, sections)?;
+        let unwritten = Unwritten::new(alloc, sections)?;
         let piece = Piece::new(alloc)?;
-        Ok(CertWriter { cert, todo, piece })
+        Ok(CertWriter {
+            cert,
+            unwritten,
+            piece,
+        })
     }
 
     /// The next piece of the text, of 1 to 65,536 bytes, or None behind the last. It takes no memory.
@@ -57,7 +61,7 @@ impl<'a> CertWriter<'a> {
         ensures next { IsNext self.old (option_copied result) }
         ensures* after { sem 𝓛 (Rests (the_row (record { mir = named 1; lft = [] })) self.entry (λ new. new ≡ behind self.old (option_copied result))) }
     {
-        self.todo.fill(&mut self.piece);
+        self.unwritten.fill(&mut self.piece);
         if self.piece.as_slice().is_empty() {
             None
         } else {

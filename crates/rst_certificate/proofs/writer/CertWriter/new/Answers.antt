@@ -5,9 +5,9 @@ use Rattle.rst_certificate.specs.CertText.{cert_text}
 use Rattle.rst_certificate.proofs.Left.{whole_ends}
 use Rattle.rst_certificate.proofs.writer.CertWriter.new.Goals as goal
 
-whole : (c : goal.In_ok-piece) → c.in_ok-todo.todo.text ≡ cert_text c.args.cert.now
+whole : (c : goal.In_ok-piece) → c.in_ok-unwritten.unwritten.text ≡ cert_text c.args.cert.now
 unfolding cert_text
-whole c = c.in_ok-todo.ensures ∙ ap (flat_map line) c.in_ok-sections.ensures
+whole c = c.in_ok-unwritten.ensures ∙ ap (flat_map line) c.in_ok-sections.ensures
 
 pub invariant_of-result : goal.invariant_of-result
 invariant_of-result c = (whole_ends _ _ (whole c)).0

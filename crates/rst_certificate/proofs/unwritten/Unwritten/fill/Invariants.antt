@@ -1,5 +1,5 @@
 use Rattle.std.proofs.Common.{◌≡◌, ◌+◌, ◌++◌, [], length, false, if◌then◌else◌}
-use Rattle.rst_certificate.proofs.todo.Todo.fill.Given as goal
+use Rattle.rst_certificate.proofs.unwritten.Unwritten.fill.Given as goal
 
 abbrev pub invariant-loop-more : goal.invariant-loop-more
 invariant-loop-more l = (l.piece ++ l.self.text ≡ l.initial.self.text) × (l.more ≡ false → l.self.text ≡ []) × (l.room + length l.piece ≡ 65536)

@@ -14,26 +14,26 @@ use std::marker::Model;
 
 /// The line under way, and the sections behind it. Contracts see the bytes that they stand for.
 #[derive(Drop)]
-pub(crate) struct Todo<'a> {
+pub(crate) struct Unwritten<'a> {
     line: Line<'a>,
     sections: Vec<Section<'a>>,
 }
 
-impl<'a> Model for Todo<'a> {
-    ghost use Rattle.rst_certificate.specs.Sections.{TodoState, todo_state};
+impl<'a> Model for Unwritten<'a> {
+    ghost use Rattle.rst_certificate.specs.Sections.{UnwrittenState, unwritten_state};
 
-    ghost Value = { TodoState };
+    ghost Value = { UnwrittenState };
 
-    ghost view = { λ todo. todo_state todo.line todo.sections.items };
+    ghost view = { λ unwritten. unwritten_state unwritten.line unwritten.sections.items };
 }
 
-impl<'a> Todo<'a> {
+impl<'a> Unwritten<'a> {
     #[tactic(auto, using(crate::proofs::Texts::text_of_lines))]
-    pub(crate) fn new(alloc: Global, sections: Vec<Section<'a>>) -> Result<Todo<'a>, NoMemory>
-        ensures { IfOk result (λ todo. todo.text ≡ flat_map words.line (lines_of sections.entry.items)) }
+    pub(crate) fn new(alloc: Global, sections: Vec<Section<'a>>) -> Result<Unwritten<'a>, NoMemory>
+        ensures { IfOk result (λ unwritten. unwritten.text ≡ flat_map words.line (lines_of sections.entry.items)) }
     {
         let line = Line::new(alloc)?;
-        Ok(Todo { line, sections })
+        Ok(Unwritten { line, sections })
     }
 
     // Moves bytes from the front to the end of the piece, and says whether anything was left.
