@@ -14,8 +14,9 @@ ghost use Rattle.rst_pairinv.specs.Turns.{Leaves};
 use crate::states::{are_sides, joined};
 use rst_gate::{Bits, has, known_cube};
 use rst_outside::NoMemory;
-use rst_pair::{Front, Hop, Pair, widen_blocked};
+use rst_pair::{Front, Hop, Pair};
 use rst_sim::two_cycle;
+use rst_widen::widen_blocked;
 use std::alloc::Global;
 
 // The first hop whose cube holds the pair.
