@@ -5,10 +5,10 @@ use rst_pair::{Front, Hop};
 use rst_value::Tern;
 use std::alloc::Global;
 
-// A hop of this cube whose input is 0.
+// A hop of this cube: without a next one its input is 0, and else 1.
 fn hop(alloc: Global, cube: &[Tern], next: Option<u32>) -> Result<Hop, NoMemory> {
     let cube = Cube::from_slice(alloc, cube)?;
-    let input = Bits::from_slice(alloc, &[false])?;
+    let input = Bits::from_slice(alloc, &[next.is_some()])?;
     Ok(Hop { cube, input, next })
 }
 

@@ -6,3 +6,6 @@ mod circuits;
 mod fronts;
 #[cfg(test)]
 mod patterns;
+mod spelled;
+#[cfg(test)]
+mod words;

@@ -102,7 +102,7 @@ landed_refutes p f pattern a b fill cube sides are right landing = record {
 }
 
 pub inside_aligns :
-    (p : Sides) (f : Front') (pattern : List (List Tern)) → EndsInside p f pattern
-    → ((s t : List Bool) → IsPair p s t → IsRelated f s t → SameAcross (left_machine p) (right_machine p) s t) → AreSides p → AreSigned p pattern
-inside_aligns p f pattern inside same sides = λ word fills s t is_s is_t.
+    (p : Sides) (f : Front') (pattern : List (List Tern)) → AreSides p
+    → ((s t : List Bool) → IsPair p s t → IsRelated f s t → SameAcross (left_machine p) (right_machine p) s t) → EndsInside p f pattern → AreSigned p pattern
+inside_aligns p f pattern sides same inside = λ word fills s t is_s is_t.
     same (after (left_machine p) s word) (after (right_machine p) t word) (pair_after p s t word sides (is_s, is_t)) (inside word s t fills (is_s, is_t))

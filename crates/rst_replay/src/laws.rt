@@ -27,5 +27,5 @@ pub fn landed_pairs_are_told_apart()
 /// Where every pair is related behind every filling of a pattern, and related pairs behave the same,
 /// every filling aligns every two power-up states: the pattern signs.
 pub fn inside_signs()
-    ensures { (p : Sides) (f : Front') (pattern : List (List Tern)) → EndsInside p f pattern → ((s t : List Bool) → IsPair p s t → IsRelated f s t → SameAcross (left_machine p) (right_machine p) s t) → AreSides p → AreSigned p pattern }
+    ensures { (p : Sides) (f : Front') (pattern : List (List Tern)) → AreSides p → ((s t : List Bool) → IsPair p s t → IsRelated f s t → SameAcross (left_machine p) (right_machine p) s t) → EndsInside p f pattern → AreSigned p pattern }
 {}
