@@ -1,30 +1,38 @@
 -- The cases of the query, and that a refutation leaves none.
-use Rattle.std.proofs.Common.{◌≡◌, ◌∙◌, ◌↔◌, ℕ, suc, ◌+◌, ◌<◌, ℤ, Bool, List, [], ◌∷◌, ◌++◌, length, take, drop, refl, sym, ap, subst, arith}
-use Rattle.std.specs.Prelude.{slice_index_or}
+use Rattle.std.proofs.Common.{◌≡◌, ◌∙◌, ℕ, suc, ◌+◌, ℤ, Bool, List, [], ◌∷◌, ◌++◌, length, take, drop, sym, ap, arith}
 use Rattle.std.proofs.Math.Logic.{∥∥₁_elim}
 use Rattle.std.proofs.lemmas.List.{length-append}
 use Rattle.rst_value.specs.declared.tern.Tern.{Tern}
 use Rattle.rst_gate.specs.Machine.{after}
-use Rattle.rst_gate.specs.Patterns.{IsFilling, free_bits, filled}
+use Rattle.rst_gate.specs.Patterns.{free_bits, filled}
 use Rattle.rst_gate.proofs.Filling.{each_filling}
-use Rattle.rst_clause.specs.Literals.{Solves}
-use Rattle.rst_clause.specs.Standing.{BeginsWith}
 use Rattle.rst_clause.specs.Solutions.{IsSolution}
 use Rattle.rst_clause.specs.Propagation.{IsRefutation}
 use Rattle.rst_clause.proofs.Sound.{refutation_refutes}
 use Rattle.rst_pair.specs.declared.query.Query.TheVariants.{LandFree}
-use Rattle.rst_pair.specs.Sides.{Sides, left_machine, right_machine, IsPair}
+use Rattle.rst_pair.specs.Sides.{Sides, AreSides, left_machine, right_machine, IsPair}
 use Rattle.rst_pair.specs.Aims.{LiesInSome}
-use Rattle.rst_pair.specs.Fronts.{Front', IsRelated}
+use Rattle.rst_pair.specs.Fronts.{Front'}
 use Rattle.rst_pair.specs.Hops.{cubes_of}
 use Rattle.rst_pair.specs.Queries.{IsQueryCase}
 use Rattle.rst_pair.proofs.Lists.{take-length, drop-length}
 use Rattle.rst_pose.specs.Posed.{posed}
+use Rattle.rst_pose.specs.Posing.{IsPosable}
 use Rattle.rst_pose.specs.Works.{HasNoCase}
 use Rattle.rst_query_laws.specs.Conditions.{IsAbout}
 use Rattle.rst_query_laws.proofs.Solutions.{solutions_are}
 use Rattle.rst_landing.specs.Landings.{land_clauses, AreKnownBehind, EndsInside}
-use Rattle.rst_landing.proofs.Ends.{ends_agree}
+use Rattle.rst_landing.proofs.Ends.{ends_agree, known_shared}
+
+pub land_about :
+    (p : Sides) (f : Front') (pattern : List (List Tern)) → AreSides p → IsPosable p f (LandFree pattern) → AreKnownBehind p f.equal pattern
+    → IsAbout p f (LandFree pattern)
+land_about p f pattern sides posable known = record {
+  sides = sides;
+  front = posable.within.front;
+  shared = known_shared p f pattern sides known;
+  speaks = posable.speaks;
+}
 
 -- solutions of the posed clauses are cases
 pub solution_case :

@@ -1,12 +1,11 @@
 -- Journals with conflicts of landing at their end.
-use Rattle.std.proofs.Common.{◌≡◌, ◌∙◌, ℕ, zero, suc, ◌+◌, ◌<◌, ◌≤◌, ◌⊎◌, inl, inr, List, [], ◌∷◌, ◌++◌, length, map, take, refl, sym, ap, arith}
+use Rattle.std.proofs.Common.{◌≡◌, ℕ, suc, ◌<◌, ◌≤◌, ◌⊎◌, inl, inr, List, [], ◌∷◌, ◌++◌, length, take, refl, ap, arith}
 use Rattle.std.specs.Prelude.{slice_index_or}
 use Rattle.std.specs.List.{Contains}
 use Rattle.std.proofs.lemmas.List.{get_or-map, take-map}
 use Rattle.std.proofs.lemmas.List.Elements.{Contains-append_left, Contains-append_right, Contains-append_cases}
 use Rattle.rst_value.specs.declared.tern.Tern.{Tern}
 use Rattle.rst_pair.specs.declared.hop.Hop.{Hop}
-use Rattle.rst_pair.specs.declared.query.Kind.{Kind}
 use Rattle.rst_pair.specs.declared.query.Kind.TheVariants as kind
 use Rattle.rst_pair.specs.declared.journal.Entry.{Entry}
 use Rattle.rst_pair.specs.declared.journal.Entry.TheVariants.{Candidate, Conflict, Blocked, Freed, Built}

@@ -1,12 +1,12 @@
 -- A model of the query, read and replayed.
-use Rattle.std.proofs.Common.{◌≡◌, ◌∙◌, ℕ, zero, suc, ◌+◌, ◌<◌, ◌≤◌, Bool, List, [], ◌∷◌, ◌++◌, length, take, drop, get_or, refl, sym, ap, subst, arith, length-drop}
+use Rattle.std.proofs.Common.{◌≡◌, ◌∙◌, ℕ, zero, suc, ◌+◌, ◌<◌, ◌≤◌, Bool, List, [], ◌∷◌, ◌++◌, length, take, drop, refl, sym, ap, subst, arith, length-drop}
 use Rattle.std.specs.Prelude.{slice_index_or}
 use Rattle.std.specs.List.{AllZip}
-use Rattle.std.proofs.lemmas.List.{length-append, length-map, get_or-take, take-map}
+use Rattle.std.proofs.lemmas.List.{length-append, get_or-take, take-map}
 use Rattle.rst_value.specs.declared.tern.Tern.{Tern}
 use Rattle.rst_value.specs.Terns.{StandsFor}
 use Rattle.rst_gate.specs.Machine.{IsWord, after}
-use Rattle.rst_gate.specs.Patterns.{IsPattern, IsFilling, free_bits, filled}
+use Rattle.rst_gate.specs.Patterns.{IsPattern, IsFilling, free_bits}
 use Rattle.rst_gate.proofs.Filling.{filled-fills}
 use Rattle.rst_gate.proofs.PatternFillings.{fillings-words}
 use Rattle.rst_pair.specs.declared.hop.Hop.{Hop}

@@ -4,3 +4,4 @@ pub mod Working
 pub mod Ends
 pub mod Cases
 pub mod Found
+pub mod Answering

@@ -1,5 +1,5 @@
 -- Conflicts of landing are work behind work that hasn't landed.
-use Rattle.std.proofs.Common.{◌≡◌, ◌∙◌, ℕ, zero, suc, ◌+◌, ◌-◌, ◌<◌, ◌≤◌, ◌⊎◌, inl, inr, ℤ, Bool, true, false, List, [], ◌∷◌, ◌++◌, length, map, take, get_or, refl, sym, ap, subst, arith}
+use Rattle.std.proofs.Common.{◌≡◌, ◌∙◌, ℕ, zero, suc, ◌+◌, ◌-◌, ◌<◌, ◌≤◌, inl, inr, ℤ, List, [], ◌∷◌, ◌++◌, length, take, get_or, refl, sym, ap, subst, arith}
 use Rattle.std.specs.Prelude.{slice_index_or}
 use Rattle.std.specs.List.{Contains}
 use Rattle.std.proofs.Math.Seq.{take-append-add}
@@ -13,10 +13,9 @@ use Rattle.rst_pair.specs.declared.query.Kind.TheVariants as kind
 use Rattle.rst_pair.specs.declared.journal.Entry.{Entry}
 use Rattle.rst_pair.specs.declared.journal.Entry.TheVariants.{Conflict}
 use Rattle.rst_pair.specs.Sides.{Sides}
-use Rattle.rst_pair.specs.Fronts.{Front', IsRelated}
-use Rattle.rst_pair.specs.Queries.{IsQueryCase}
+use Rattle.rst_pair.specs.Fronts.{Front'}
 use Rattle.rst_pose.specs.Posed.{posed}
-use Rattle.rst_pose.specs.Works.{Search, AreWork, IsTrueEntry, IsConflict, HasNoCase, front_of, blocked_of, freed_of, paths_of, phase}
+use Rattle.rst_pose.specs.Works.{Search, AreWork, IsTrueEntry, HasNoCase, blocked_of, freed_of, phase}
 use Rattle.rst_landing.specs.Work.{checking, HasNotLanded, land_conflicts, IsLandWork}
 use Rattle.rst_landing.specs.Landings.{land_clauses}
 use Rattle.rst_landing.proofs.Entries.{no_hop_more, paths_behind, paths_are, phase_most, conflict_at, conflict_count, first_conflicts}

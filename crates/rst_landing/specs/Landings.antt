@@ -1,5 +1,5 @@
 -- Where a pattern leads the pairs of power-up states.
-use Rattle.std.specs.Prelude.{◌≡◌, ℕ, ◌+◌, ℤ, Bool, true, false, List, ◌++◌, length, replicate, slice_index_or}
+use Rattle.std.specs.Prelude.{◌≡◌, ℕ, ℤ, Bool, true, false, List, ◌++◌, length, replicate, slice_index_or}
 use Rattle.rst_value.specs.declared.tern.Tern.{Tern}
 use Rattle.rst_value.specs.declared.tern.Tern.TheVariants.{Unknown}
 use Rattle.rst_gate.specs.Machine.{after}

@@ -6,7 +6,10 @@ use rst_pair::Journal;
 #[derive(Debug, Drop)]
 pub enum Landing {
     /// No pair lands in a blocked cube: a log that refutes the posed query.
-    Inside { log: Log, journal: Journal },
+    Inside {
+        log: Log,
+        journal: Journal,
+    },
     /// Behind this filling of the pattern, the pair of the left state `a` and the right state `b` lies
     /// in the blocked cube of this number, counted from 0, and in none before it.
     Outside {
@@ -17,5 +20,7 @@ pub enum Landing {
         journal: Journal,
     },
     /// As many units of work as were allowed.
-    Spent { journal: Journal },
+    Spent {
+        journal: Journal,
+    },
 }

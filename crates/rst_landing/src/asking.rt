@@ -2,7 +2,6 @@ ghost use Rattle.std.specs.Prelude.{◌≡◌, IfOk};
 ghost use Rattle.rst_pair.specs.declared.query.Query.TheVariants.{Split, LandFree};
 ghost use Rattle.rst_pose.specs.Posing.{IsPosable};
 ghost use Rattle.rst_pose.specs.Works.{HasNoCase};
-ghost use Rattle.rst_query_laws.specs.Conditions.{AreShared};
 ghost use Rattle.rst_landing.specs.Work.{IsLandWork};
 ghost use Rattle.rst_landing.specs.Landings.{AreKnownBehind, journal_of, HasRefuted, IsSureInside, HasLanded, HasSpent};
 ghost use Rattle.rst_landing.specs.Models.{AnswersLand};
@@ -49,8 +48,8 @@ fn ask(
 /// units of work. Both states take the same filling of the pattern.
 ///
 /// Gates, hops and cycles are within the limits of every call (`posable`). Each marked register is
-/// one of both sides (`shared`), and is known behind the pattern, with X at each free bit, to the
-/// same value on both sides (`known`). No pair of the front's relation splits (`split`).
+/// known behind the pattern, from the state of all X and with X at each free bit, and has the same
+/// value on both sides (`known`). No pair of the front's relation splits (`split`).
 ///
 /// The journal has a conflict of landing for each path of the search, at most `left`; they are work
 /// behind any work of `check` with the front's blocked hops, in which nothing has landed yet
@@ -68,7 +67,6 @@ pub fn lands(
     left: u32,
 ) -> Result<Landing, NoMemory>
     requires posable { IsPosable pair.now front.now (LandFree seq.now) }
-    requires shared { AreShared pair.now front.now }
     requires known { AreKnownBehind pair.now front.now.equal seq.now }
     requires split { HasNoCase pair.now front.now Split }
     ensures journal { IfOk result (λ a. IsLandWork pair.now front.now seq.now left (journal_of a)) }

@@ -28,12 +28,7 @@ pub(crate) struct Start {
 }
 
 // The states and the filling that the free bits of the query are.
-fn start_of(
-    alloc: Global,
-    pair: &Pair,
-    seq: &Pattern,
-    bits: &[bool],
-) -> Result<Start, NoMemory>
+fn start_of(alloc: Global, pair: &Pair, seq: &Pattern, bits: &[bool]) -> Result<Start, NoMemory>
     requires { length bits.now ≡ pair.now.left.states + pair.now.right.states + free_bits seq.now }
     ensures { IfOk result (λ s. IsReadOf pair.now seq.now bits.now s) }
 {
