@@ -27,7 +27,7 @@ word_fits :
     (p : Sides) (hops : List Hop) (next : Option ℕ) (k : ℕ) → ForSome next (λ n. n < k)
     → ((n : ℕ) → n < k → IsWord (left_machine p) (word_of hops n)) → IsWord (left_machine p) (next_word (words_of hops) next)
 word_fits p hops None k earlier all = tt
-word_fits p hops (Some n) k earlier all = all n earlier
+word_fits p hops (Some n) k earlier all = all n (earlier n refl)
 
 words_fit :
     (p : Sides) (hops : List Hop) → AreHops p hops → (fuel k : ℕ) → k < fuel → k < length hops → IsWord (left_machine p) (word_of hops k)
@@ -55,8 +55,9 @@ step_apart :
     → outs (left_machine p) s (input ∷ next_word (words_of hops) next) ≡ outs (right_machine p) t (input ∷ next_word (words_of hops) next) → ⊥
 step_apart p hops None k input s t earlier leads later same = leads (cc)
 step_apart p hops (Some n) k input s t earlier leads later same =
-    later n earlier
-    (subst (λ (cube : List Tern). Holds cube ((left_machine p).step s input) ((right_machine p).step t input)) (cube_before hops k n earlier) leads)
+    let lt : n < k = earlier n refl in
+    later n lt
+    (subst (λ (cube : List Tern). Holds cube ((left_machine p).step s input) ((right_machine p).step t input)) (cube_before hops k n lt) leads)
     (cc)
 
 all_apart :

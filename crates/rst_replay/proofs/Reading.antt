@@ -1,5 +1,5 @@
 -- The words of hops, hop by hop.
-use Rattle.std.proofs.Common.{◌≡◌, ◌∙◌, ℕ, zero, suc, ◌+◌, ◌<◌, Bool, List, [], ◌∷◌, ◌++◌, length, get_or, refl, sym, ap, subst, arith}
+use Rattle.std.proofs.Common.{◌≡◌, ◌∙◌, ℕ, zero, suc, ◌+◌, ◌<◌, Bool, List, [], ◌∷◌, ◌++◌, length, get_or, refl, sym, ap, subst, arith, append_assoc}
 use Rattle.std.specs.Prelude.{slice_index_or, Option, None, Some}
 use Rattle.std.specs.Option.{ForSome}
 use Rattle.std.proofs.lemmas.List.{length_push, get_or_push, get_or_append_left}
@@ -20,7 +20,7 @@ same_next :
     (words all : List (List (List Bool))) (next : Option ℕ) (n : ℕ) → ((i : ℕ) → i < n → slice_index_or all i [] ≡ slice_index_or words i [])
     → ForSome next (λ k. k < n) → next_word words next ≡ next_word all next
 same_next words all None n same below = refl
-same_next words all (Some k) n same below = sym (same k below)
+same_next words all (Some k) n same below = sym (same k (below k refl))
 
 -- the word of the hop at a place behind those that stand
 here :
@@ -56,3 +56,33 @@ word_step hops k d below earlier =
     let place : 0 + k ≡ k = omega arith in
     ap (λ (n : ℕ). slice_index_or (words_of hops) n []) (sym place)
     ∙ here [] hops k d below (subst (λ (n : ℕ). ForSome (slice_index_or hops k d).next (λ m. m < n)) (sym place) earlier)
+
+step_of :
+    (hops : List Hop) (at : ℕ) (hop : Hop) → HaveEarlierNexts hops → at < length hops → hop ≡ get_or hops at hop
+    → word_of hops at ≡ hop.input ∷ next_word (words_of hops) hop.next
+step_of hops at hop nexts below is =
+    subst (λ (h : Hop). word_of hops at ≡ h.input ∷ next_word (words_of hops) h.next) (sym is) (word_step hops at hop below (nexts at hop below))
+
+-- a turn of the loop: the word so far, and that of the next hop
+pub next_below :
+    (hops : List Hop) (at : ℕ) (hop : Hop) (next : ℕ) → HaveEarlierNexts hops → at < length hops → hop ≡ get_or hops at hop
+    → hop.next ≡ Some next → next < at
+next_below hops at hop next nexts below is there = nexts at hop below next (ap (λ (h : Hop). h.next) (sym is) ∙ there)
+
+pub word_turn :
+    (hops : List Hop) (at : ℕ) (hop : Hop) (next : ℕ) (whole word more : List (List Bool)) → HaveEarlierNexts hops → at < length hops
+    → hop ≡ get_or hops at hop → hop.next ≡ Some next → whole ≡ word ++ word_of hops at → more ≡ word ++ hop.input ∷ []
+    → whole ≡ more ++ word_of hops next
+word_turn hops at hop next whole word more nexts below is there so_far push =
+    so_far
+    ∙ ap (λ (rest : List (List Bool)). word ++ rest) (step_of hops at hop nexts below is ∙ ap (λ (o : Option ℕ). hop.input ∷ next_word (words_of hops) o) there)
+    ∙ sym (append_assoc word (hop.input ∷ []) (word_of hops next))
+    ∙ ap (λ (front : List (List Bool)). front ++ word_of hops next) (sym push)
+
+pub word_end :
+    (hops : List Hop) (at : ℕ) (hop : Hop) (whole word more : List (List Bool)) → HaveEarlierNexts hops → at < length hops
+    → hop ≡ get_or hops at hop → hop.next ≡ None → whole ≡ word ++ word_of hops at → more ≡ word ++ hop.input ∷ [] → more ≡ whole
+word_end hops at hop whole word more nexts below is there so_far push =
+    push
+    ∙ ap (λ (rest : List (List Bool)). word ++ rest) (sym (step_of hops at hop nexts below is ∙ ap (λ (o : Option ℕ). hop.input ∷ next_word (words_of hops) o) there))
+    ∙ sym so_far
