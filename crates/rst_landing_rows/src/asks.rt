@@ -33,16 +33,23 @@ fn are_sides(pair: &Pair)
     let _second = right.states;
 }
 
-// Whether no register is marked.
-fn is_unmarked(front: &Front) -> bool
-    ensures { IsTrue result → (i : ℕ) → slice_index_or front.now.equal i false ≡ true → ⊥ }
+// Whether no bit is set.
+fn are_clear(marks: &[bool]) -> bool
+    ensures { IsTrue result → (i : ℕ) → slice_index_or marks.now i false ≡ true → ⊥ }
 {
-    for marked in front.equal.as_slice() {
+    for marked in marks {
         if *marked {
             return false;
         }
     }
     true
+}
+
+// Whether no register is marked.
+fn is_unmarked(front: &Front) -> bool
+    ensures { IsTrue result → (i : ℕ) → slice_index_or front.now.equal i false ≡ true → ⊥ }
+{
+    are_clear(front.equal.as_slice())
 }
 
 // Whether the solver shows that no pair splits.
