@@ -1,0 +1,3 @@
+-- Lemmas by topic.
+pub mod Reading
+pub mod Apart
