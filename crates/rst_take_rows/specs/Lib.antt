@@ -1,0 +1,1 @@
+-- Rows need no words of their own.
