@@ -4,7 +4,7 @@ use Rattle.std.specs.List.{AllZip}
 use Rattle.rst_value.specs.Terns.{StandsFor}
 use Rattle.rst_pair.specs.Hops.{cube_at}
 use Rattle.rst_pair.proofs.Loops.{cube_wide, cube_read}
-use Rattle.rst_pair.proofs.Orders.{last_or_before}
+use Rattle.rst_pair.proofs.Loops.{last_or_before}
 use Rattle.rst_landing.proofs.model.first_holding.Goals as goal
 
 pub has-requires : goal.has-requires
