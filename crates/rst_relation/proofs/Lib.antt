@@ -1,3 +1,3 @@
 pub mod Marked
 pub mod Working
-pub mod Deciding
+pub mod Landed

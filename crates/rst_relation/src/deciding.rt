@@ -1,16 +1,14 @@
 // The decision of a pattern: the relation is refined, then it is asked where the pattern lands.
 ghost use Rattle.std.specs.Prelude.{◌≡◌, ◌≤◌, length, IfOk};
-ghost use Rattle.rst_gate.specs.Machine.{Machine};
 ghost use Rattle.rst_gate.specs.GateMachines.{machine_of};
 ghost use Rattle.rst_gate.specs.Patterns.{IsPattern, PatternSigns};
 ghost use Rattle.rst_pose.specs.Posing.{IsSmall};
-ghost use Rattle.rst_pair.specs.Sides.{AreSides};
-ghost use Rattle.rst_relation.specs.Decisions.{one_design, journal_in, IsSigned, IsRefuted, IsUnknown, HasWork, HasHops, HasSplitLog, HasLandLog, HasRefutation};
+ghost use Rattle.rst_relation.specs.Decisions.{journal_in, IsSigned, IsRefuted, IsUnknown, HasWork, HasHops, HasSplitLog, HasLandLog, HasRefutation};
 ghost use Rattle.rst_relation.specs.Deciding.{IsAsked, IsRefined};
 
 use crate::Decision;
 use crate::joining::join;
-use crate::marking::marked;
+use crate::marking::{are_sides, marked};
 use rst_clause::Log;
 use rst_gate::{Gates, Pattern};
 use rst_landing::{Landing, lands};
@@ -19,13 +17,6 @@ use rst_pair::{Front, Journal, Pair};
 use rst_pairinv::{Refined, refine};
 use rst_replay::hop_word;
 use std::alloc::Global;
-
-// Both sides are the same circuit.
-fn are_sides(gates: &Gates)
-    ensures { AreSides (one_design gates.now) }
-{
-    let _states = gates.states;
-}
 
 // Asks where the pattern lands, with what is left of the budget.
 fn decide_landing(
@@ -128,6 +119,7 @@ pub fn decide(
     ensures unsigned { IfOk result (λ d. IsRefuted d → PatternSigns (machine_of gates.now) pattern.now → ⊥) }
     ensures unknown { IfOk result (λ d. IsUnknown d → length (journal_in d) ≡ budget) }
 {
+    are_sides(gates);
     let equal = marked(alloc, gates, pattern)?;
     let pair = Pair {
         left: gates,

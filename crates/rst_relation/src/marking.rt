@@ -2,7 +2,8 @@
 ghost use Rattle.std.specs.Prelude.{◌≡◌, map, IfOk};
 ghost use Rattle.rst_gate.specs.Patterns.{IsPattern};
 ghost use Rattle.rst_gate.specs.GateMachines.{machine_of};
-ghost use Rattle.rst_relation.specs.Decisions.{is_bit, AreMarkedBehind};
+ghost use Rattle.rst_pair.specs.Sides.{AreSides};
+ghost use Rattle.rst_relation.specs.Decisions.{one_design, is_bit, AreMarkedBehind};
 
 use rst_decision::known_states;
 use rst_gate::{Bits, Gates, Pattern};
@@ -31,11 +32,19 @@ fn known_places(alloc: Global, places: &[Tern]) -> Result<Bits, NoMemory>
     Ok(bits)
 }
 
+// Both sides are the same circuit.
+pub(crate) fn are_sides(gates: &Gates)
+    ensures { AreSides (one_design gates.now) }
+{
+    let _states = gates.states;
+}
+
 // The marked registers: the closed set of those that are known behind the pattern.
 pub(crate) fn marked(alloc: Global, gates: &Gates, pattern: &Pattern) -> Result<Bits, NoMemory>
     requires { IsPattern (machine_of gates.now) pattern.now }
     ensures { IfOk result (λ equal. AreMarkedBehind gates.now pattern.now equal) }
 {
+    are_sides(gates);
     let trace = known_states(alloc, gates, pattern)?;
     let last = pattern.len();
     let known = known_places(alloc, trace.states[last].as_slice())?;
