@@ -105,7 +105,7 @@ module _ (c : Circuit) (pattern : List (List Tern)) (budget : ℕ) (f : Front') 
       blocked = omega (arith, few, refined.few, blocked_few journal, ap length refined.blocked);
       freed = omega (arith, ap length refined.none_freed);
     };
-    speaks = asked.pattern;
+    speaks = asked.inputs;
     cycles = asked.cycles;
   }
 

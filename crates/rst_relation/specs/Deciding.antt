@@ -16,7 +16,7 @@ use Rattle.rst_relation.specs.Decisions.{one_design, AreMarkedBehind}
 -- gates and a pattern of their inputs within the limits
 pub record IsAsked (c : Circuit) (pattern : List (List Tern)) : Type 0 where
   pub small : IsSmall c
-  pub pattern : IsPattern (machine_of c) pattern
+  pub inputs : IsPattern (machine_of c) pattern
   pub cycles : length pattern ≤ 128
 
 -- the relation is refined, with at most so many entries
