@@ -96,8 +96,6 @@ pub enum Code {
     Cut,
     /// A file is longer than its limit.
     TooLong,
-    /// Three-valued simulation leaves a register unknown behind the sequence.
-    NotKnown,
 }
 
 impl Code {
@@ -151,7 +149,6 @@ impl Code {
             Code::BadHeader => "BadHeader",
             Code::Cut => "Cut",
             Code::TooLong => "TooLong",
-            Code::NotKnown => "NotKnown",
         }
     }
 }
