@@ -131,6 +131,11 @@ module _ (words : List (List ℕ)) (files : List DeskFile) (purpose : Purpose) (
       let P : Option ℕ → Type 0 = λ failed. texts_of files failed input ≡ Ok texts in
       goes_on texts (subst P (sym ends.later.unread) gives) ends.chain
 
+  -- where loads are sure, as where none has failed
+  pub loaded_sure : (texts : Texts) → texts_of files None input ≡ Ok texts → Ends (Then (Asks words input texts) (QuestionDecides words input purpose)) due
+      → InputRuns words files None purpose input (Err due)
+  loaded_sure texts gives ends = goes_on texts gives ends.chain
+
   pub loaded_gates : (texts : Texts) (q : Question) → texts_of files None input ≡ Ok texts → IsLater due
       → ((r : Question) → Asks words input texts (Ok r) → HasOrderedGates (netlist r)) → InputAsks words files (unread_of due.answer) input q → HasOrderedGates (netlist q)
   loaded_gates texts q gives later each (others, again, asks) =
@@ -159,6 +164,10 @@ module _ (words : List (List ℕ)) (files : List DeskFile) (purpose : Purpose) (
   stopped_runs stop stops gives =
       let P : Option ℕ → Type 0 = λ failed. texts_of files failed input ≡ Err stop in
       refused due (stop, subst P (sym (unread_is stop stops)) (gives (memory_not stop stops)), stops) refl
+
+  pub stopped_sure : (stop : loading.Stop) → LoadStops words stop due → (stop ≢ stopped.NoMemory → texts_of files None input ≡ Err stop)
+      → InputRuns words files None purpose input (Err due)
+  stopped_sure stop stops gives = refused due (stop, gives (memory_not stop stops), stops) refl
 
   pub stopped_gates : (stop : loading.Stop) (q : Question) → LoadStops words stop due → (stop ≢ stopped.NoMemory → texts_of files (failed_of stop) input ≡ Err stop)
       → InputAsks words files (unread_of due.answer) input q → HasOrderedGates (netlist q)
@@ -285,6 +294,9 @@ module _ (words : List (List ℕ)) (told : Option (List DeskFile)) (purpose : Pu
   abbrev Runs : Due → Type 0
   Runs due = IfSome told (λ files. InputRuns words files (unread_of due.answer) purpose input (Err due))
 
+  abbrev Sure : Due → Type 0
+  Sure due = IfSome told (λ files. InputRuns words files None purpose input (Err due))
+
   abbrev Gates : Due → Type 0
   Gates due = IfSome told (λ files. (q : Question) → InputAsks words files (unread_of due.answer) input q → HasOrderedGates (netlist q))
 
@@ -296,6 +308,17 @@ module _ (words : List (List ℕ)) (told : Option (List DeskFile)) (purpose : Pu
       → EndsReady result (Then (Asks words input texts) (QuestionDecides words input purpose)) → IfOk result (λ ready. Runs (plain_due ready))
   input_ok texts (Ok ready) gives ends = runs_told told _ _ gives (λ files is. loaded_runs words files purpose input (plain_due ready) texts is ends)
   input_ok texts (Err e) gives ends = tt
+
+  pub input_sure_ok : (texts : Texts) (result : Result Ready NoMemory) → IfSome told (λ files. texts_of files None input ≡ Ok texts)
+      → EndsReady result (Then (Asks words input texts) (QuestionDecides words input purpose)) → (S : Type 0) → IfOk result (λ ready. S → Sure (plain_due ready))
+  input_sure_ok texts (Ok ready) gives ends S = λ sure. runs_told told _ _ gives (λ files is. loaded_sure words files purpose input (plain_due ready) texts is ends)
+  input_sure_ok texts (Err e) gives ends S = tt
+
+  pub input_sure_err : (stop : loading.Stop) (S : Type 0) → (S → stop ≢ stopped.NoMemory → IfSome told (λ files. texts_of files None input ≡ Err stop))
+      → (result : Result Ready NoMemory) → IfOk result (λ ready. LoadStops words stop (plain_due ready)) → IfOk result (λ ready. S → Sure (plain_due ready))
+  input_sure_err stop S gives (Ok ready) stops = λ sure.
+      runs_told told _ _ (gives sure (memory_not words [] purpose input (plain_due ready) stop stops)) (λ files is. stopped_sure words files purpose input (plain_due ready) stop stops (λ memory. is))
+  input_sure_err stop S gives (Err e) stops = tt
 
   pub input_gates_ok : (texts : Texts) (result : Result Ready NoMemory) → IfSome told (λ files. texts_of files None input ≡ Ok texts)
       → EndsReady result (Then (Asks words input texts) (QuestionDecides words input purpose))

@@ -42,3 +42,17 @@ pub demo_gates : (words : List (List ℕ)) (files : Option (List DeskFile)) (res
 demo_gates words None (Ok ready) stages h = tt
 demo_gates words (Some fs) (Ok ready) stages h = h
 demo_gates words files (Err e) stages h = tt
+
+-- the run where loads are sure
+abbrev pub SureOf : Type 0 → List (List ℕ) → Option (List DeskFile) → Result Ready NoMemory → Command → Type 0
+SureOf S words files result command = IfOk result (λ ready. S → IfSome files (λ fs. CommandRuns words fs None command (Err (plain_due ready))))
+
+pub sure_as : (S : Type 0) (words : List (List ℕ)) (files : Option (List DeskFile)) (result : Result Ready NoMemory) (command other : Command) → other ≡ command
+    → SureOf S words files result command → SureOf S words files result other
+sure_as S words files result command other is h = subst (λ (x : Command). SureOf S words files result x) (sym is) h
+
+pub demo_sure : (S : Type 0) (words : List (List ℕ)) (files : Option (List DeskFile)) (result : Result Ready NoMemory) (stages : ℕ)
+    → IfOk result (λ ready. Ends (Then (DemoAsks words stages) (DemoDecides words stages)) (plain_due ready)) → SureOf S words files result (Demo stages)
+demo_sure S words None (Ok ready) stages h = λ sure. tt
+demo_sure S words (Some fs) (Ok ready) stages h = λ sure. h.chain
+demo_sure S words files (Err e) stages h = tt

@@ -80,7 +80,7 @@ pub(crate) fn demo_due(alloc: Global, words: &[String], stages: u8) -> Result<Re
         sources: 0,
     };
     match read_question(alloc, places, b"demo", demo_script(), sources.as_slice()) {
-        Ok(question) => reply_demo(alloc, words, stages, question),
+        Ok(question) => reply_demo(alloc, words, stages, &question),
         Err(stop) => demo_stopped(alloc, words, stop),
     }
 }

@@ -1,5 +1,5 @@
 // What is due in `check` and `known`, which load a script and sources.
-ghost use Rattle.std.specs.Prelude.{◌≡◌, ◌≢◌, ◌≤◌, ◌<◌, Ok, Err, None, IfOk, IfSome, length, map, string_bytes};
+ghost use Rattle.std.specs.Prelude.{◌≡◌, ◌≢◌, ◌≤◌, ◌<◌, Ok, Err, None, IfOk, IfSome, IsTrue, length, map, string_bytes};
 ghost use Rattle.std.specs.List.{All, Contains};
 ghost use Rattle.rst_outside.specs.Causes.{Rose};
 ghost use Rattle.rst_reject.specs.Steps.{Then};
@@ -49,17 +49,17 @@ fn question_due(
     words: &[String],
     purpose: Purpose,
     input: &Input<'_>,
-    question: Question,
+    question: &Question,
 ) -> Result<Ready, NoMemory>
-    requires { IsSound question }
-    ensures ends { IfOk result (λ ready. (q : Question_) → Stands q question
+    requires { IsSound question.now }
+    ensures ends { IfOk result (λ ready. (q : Question_) → Stands q question.now
         → Ends (QuestionDecides (map string_bytes words.now) (plain_input input.now) purpose q) (plain_due ready)) }
     ensures fits { IfOk result CertFits }
-    ensures gates { IfOk result (λ ready. HasOrderedGates (plain_net question.net)) }
+    ensures gates { IfOk result (λ ready. HasOrderedGates (plain_net question.now.net)) }
 {
     match purpose {
         Purpose::Check => reply_check(alloc, words, input.top, question),
-        Purpose::Known => reply_known(alloc, &question),
+        Purpose::Known => reply_known(alloc, question),
     }
 }
 
@@ -89,7 +89,7 @@ fn texts_due(
         texts.script.as_slice(),
         texts.sources.as_slice(),
     ) {
-        Ok(question) => question_due(alloc, words, purpose, input, question),
+        Ok(question) => question_due(alloc, words, purpose, input, &question),
         Err(stop) => question_stopped(alloc, words, stop),
     }
 }
@@ -111,8 +111,11 @@ pub(crate) fn input_due<K: Desk>(
     ensures failed { IfOk result (λ ready. IfSome (unread_of (plain_due ready).answer) (λ place.
         Contains (places (plain_input input.now)) place × Rose (K.load_faults desk.old) (K.load_faults desk.new))) }
     ensures some { IfOk result (λ ready. (plain_due ready).answer ≢ NoCommand) }
+    ensures sure { IfOk result (λ ready. IsTrue (K.sure_loads desk.old) → IfSome (K.files desk.old) (λ files.
+        InputRuns (map string_bytes words.now) files None purpose (plain_input input.now) (Err (plain_due ready)))) }
     ensures kept { K.files desk.new ≡ K.files desk.old }
     ensures saves { K.save_faults desk.new ≡ K.save_faults desk.old }
+    ensures room { K.sure_room desk.new ≡ K.sure_room desk.old }
 {
     match load_texts(alloc, desk, input) {
         Ok(texts) => texts_due(alloc, words, purpose, input, &texts),

@@ -1,5 +1,5 @@
 // Loads the script and the sources of a command.
-ghost use Rattle.std.specs.Prelude.{◌≡◌, ◌≢◌, ◌<◌, ◌≤◌, ◌++◌, ◌+◌, List, ℕ, Ok, Err, Some, None, map, length, vec_len, string_bytes, IfOk, OnOk, IfErr, IfSome, IsErrOf};
+ghost use Rattle.std.specs.Prelude.{◌≡◌, ◌≢◌, ◌<◌, ◌≤◌, ◌++◌, ◌+◌, List, ℕ, Ok, Err, Some, None, map, length, vec_len, string_bytes, IfOk, OnOk, IfErr, IfSome, IsErrOf, IsTrue};
 ghost use Rattle.std.specs.List.{All, Contains};
 ghost use Rattle.rst_outside.specs.Causes.{Rose};
 ghost use Rattle.rst_outside.specs.Files.{IsHeldUnder, IsLongUnder, bytes_under};
@@ -52,6 +52,10 @@ fn load_word<K: Desk>(alloc: Global, desk: &mut K, place: u16, name: &str) -> Re
     ensures later { K.load_faults desk.old ≤ K.load_faults desk.new }
     ensures kept { K.files desk.new ≡ K.files desk.old }
     ensures saves { K.save_faults desk.new ≡ K.save_faults desk.old }
+    ensures sure { IfErr result (λ stop. IsTrue (K.sure_loads desk.old) → stop ≢ Stop.NoMemory → IfSome (K.files desk.old) (λ files.
+        load_of files None (record { place = place; text = name.now }) ≡ Err stop)) }
+    ensures as_sure { K.sure_loads desk.new ≡ K.sure_loads desk.old }
+    ensures room { K.sure_room desk.new ≡ K.sure_room desk.old }
 {
     match desk.load(alloc, name, TEXT_LIMIT) {
         Ok(text) => Ok(text),
@@ -80,6 +84,10 @@ fn load_words<K: Desk>(
     ensures later { K.load_faults desk.old ≤ K.load_faults desk.new }
     ensures kept { K.files desk.new ≡ K.files desk.old }
     ensures saves { K.save_faults desk.new ≡ K.save_faults desk.old }
+    ensures sure { IfErr result (λ stop. IsTrue (K.sure_loads desk.old) → stop ≢ Stop.NoMemory → IfSome (K.files desk.old) (λ files.
+        loads_of files None (words_from place (map string_bytes words.now)) ≡ Err stop)) }
+    ensures as_sure { K.sure_loads desk.new ≡ K.sure_loads desk.old }
+    ensures room { K.sure_room desk.new ≡ K.sure_room desk.old }
 {
     let [first, rest @ ..] = words else {
         return Ok(());
@@ -92,7 +100,8 @@ fn load_words<K: Desk>(
 #[tactic(auto, using(crate::proofs::Places::stops_inside, crate::proofs::Places::stops_first))]
 /// Loads the texts of a command: the script, and then the sources in the order of the words. Each has at most 1,048,576 bytes.
 ///
-/// Or else it answers why the first that gives none doesn't. Where its load failed, the desk has counted it.
+/// Or else it answers why the first that gives none doesn't. Where its load failed, the desk has counted it; of a desk whose loads are
+/// sure, there is no file of that name then (`sure`).
 pub fn load_texts<K: Desk>(alloc: Global, desk: &mut K, input: &Input<'_>) -> Result<Texts, Stop>
     requires { input.now.script.place < input.now.files.first }
     ensures script { IfOk result (λ texts. IsShort texts.script.items) }
@@ -105,6 +114,10 @@ pub fn load_texts<K: Desk>(alloc: Global, desk: &mut K, input: &Input<'_>) -> Re
     ensures cause { IfErr result (IsCause (K.load_faults desk.old) (K.load_faults desk.new)) }
     ensures kept { K.files desk.new ≡ K.files desk.old }
     ensures saves { K.save_faults desk.new ≡ K.save_faults desk.old }
+    ensures sure { IfErr result (λ stop. IsTrue (K.sure_loads desk.old) → stop ≢ Stop.NoMemory → IfSome (K.files desk.old) (λ files.
+        texts_of files None (plain_input input.now) ≡ Err stop)) }
+    ensures as_sure { K.sure_loads desk.new ≡ K.sure_loads desk.old }
+    ensures room { K.sure_room desk.new ≡ K.sure_room desk.old }
 {
     let script = load_word(alloc, desk, input.script.place, input.script.text)?;
     let mut sources = Vec::new(alloc);

@@ -9,7 +9,7 @@ ghost use Rattle.rst_replies.specs.Replies.{head_for, report_for, cert_for};
 
 use rst_flow::Net;
 use rst_outside::{Bytes, Name, NoMemory};
-use rst_ports::{Ports, outputs, registers};
+use rst_ports::{inputs, outputs, registers};
 use rst_report::{Head, report_text, width_sum};
 use rst_report_json::report_json;
 use rst_script::Script;
@@ -20,22 +20,17 @@ use std::alloc::Global;
 const FORM: u32 = 2;
 
 /// The head of a report.
-pub(crate) fn head(
-    alloc: Global,
-    top: &str,
-    budget: u32,
-    net: &Net,
-    inputs: Ports,
-) -> Result<Head, NoMemory>
-    ensures head { IfOk result (λ head. head ≡ head_for top.now budget inputs (plain_net net.now)) }
-    ensures limits { IfOk result (λ head. inputs ≡ ports_with role.Input (plain_net net.now).signals → KeepsLimits head) }
+pub(crate) fn head(alloc: Global, top: &str, budget: u32, net: &Net) -> Result<Head, NoMemory>
+    ensures head { IfOk result (λ head. head ≡ head_for top.now budget (ports_with role.Input (plain_net net.now).signals) (plain_net net.now)) }
+    ensures limits { IfOk result KeepsLimits }
 {
     let name = Name::new(alloc, top.as_bytes())?;
     let outs = outputs(alloc, net.signals.as_slice(), net.outputs.as_slice())?;
     let states = registers(alloc, net.signals.as_slice())?;
+    let ins = inputs(alloc, net.signals.as_slice())?;
     Ok(Head {
         top: name,
-        inputs,
+        inputs: ins,
         outputs: outs,
         registers: states,
         budget,

@@ -23,10 +23,10 @@ use crate::head::{certificate, head, report};
 use rst_answer::{Answer, Ready, put_only, refused};
 use rst_decision::{decide_check, known_states};
 use rst_flow::Net;
-use rst_gate::Pattern;
+use rst_gate::{Cube, Pattern};
 use rst_net_gates::lower;
 use rst_outside::{Bytes, Name, NoMemory};
-use rst_ports::{Ports, registers};
+use rst_ports::registers;
 use rst_question::Question;
 use rst_reject::{Code, Reject};
 use rst_report::{Head, known_rows};
@@ -54,15 +54,13 @@ fn signed(
     top: &str,
     script: &Script,
     net: &Net,
-    inputs: Ports,
     verdict: Verdict,
 ) -> Result<Ready, NoMemory>
-    requires inputs { inputs ≡ ports_with role.Input (plain_net net.now).signals }
     requires version { script.now.version ≡ 1 → free_bits_of verdict ≡ 0 }
     ensures due { IfOk result (λ ready. plain_due ready ≡ check_due_for top.now (plain_script script.now) (plain_net net.now) verdict) }
     ensures fits { IfOk result CertFits }
 {
-    let (text, head) = match reported(alloc, top, script, net, inputs, &verdict) {
+    let (text, head) = match reported(alloc, top, script, net, &verdict) {
         Ok(found) => found,
         Err(error) => {
             drop(verdict);
@@ -79,15 +77,13 @@ fn reported(
     top: &str,
     script: &Script,
     net: &Net,
-    inputs: Ports,
     verdict: &Verdict,
 ) -> Result<(Bytes, Head), NoMemory>
-    requires inputs { inputs ≡ ports_with role.Input (plain_net net.now).signals }
     ensures text { IfOk result (λ it. it.0 ≡ report_for script.now.json it.1 verdict.now) }
     ensures head { IfOk result (λ it. it.1 ≡ head_for top.now script.now.budget (ports_with role.Input (plain_net net.now).signals) (plain_net net.now)) }
     ensures limits { IfOk result (λ it. KeepsLimits it.1) }
 {
-    let head = head(alloc, top, script.budget, net, inputs)?;
+    let head = head(alloc, top, script.budget, net)?;
     let text = report(alloc, script.json, &head, verdict)?;
     Ok((text, head))
 }
@@ -108,14 +104,12 @@ fn demonstrated(
     stages: u8,
     script: &Script,
     net: &Net,
-    inputs: Ports,
     verdict: Verdict,
 ) -> Result<Ready, NoMemory>
-    requires inputs { inputs ≡ ports_with role.Input (plain_net net.now).signals }
     ensures fits { IfOk result CertFits }
     ensures due { IfOk result (λ ready. plain_due ready ≡ demo_due_for stages (plain_script script.now) (plain_net net.now) verdict) }
 {
-    let report = match reported(alloc, "demo", script, net, inputs, &verdict) {
+    let report = match reported(alloc, "demo", script, net, &verdict) {
         Ok((text, _)) => text,
         Err(error) => {
             drop(verdict);
@@ -131,16 +125,28 @@ fn demonstrated(
     }
 }
 
+// A copy of a pattern.
+fn copied(alloc: Global, pattern: &Pattern) -> Result<Pattern, NoMemory>
+    ensures { IfOk result (λ own. own ≡ pattern.now) }
+{
+    let mut own = Pattern::new(alloc);
+    for cube in pattern.as_slice() {
+        own.push(Cube::from_slice(alloc, cube.as_slice())?)?;
+    }
+    Ok(own)
+}
+
 // The verdict on the pattern of a design, if it is known.
-fn decided(alloc: Global, net: &Net, pattern: Pattern) -> Result<Option<Verdict>, NoMemory>
+fn decided(alloc: Global, net: &Net, pattern: &Pattern) -> Result<Option<Verdict>, NoMemory>
     requires lowerable { IsLowerable (plain_net net.now) }
-    requires places { AllByRecursion (λ (places : List Tern). length places ≡ input_bits (plain_net net.now)) pattern }
-    ensures known { IfOk result (λ verdict. IsSome verdict ↔ KnowsPattern (design_terns (plain_net net.now)) pattern) }
-    ensures verdict { IfOk result (λ verdict. IfSome verdict (λ it. it ≡ SignedKnown pattern)) }
+    requires places { AllByRecursion (λ (places : List Tern). length places ≡ input_bits (plain_net net.now)) pattern.now }
+    ensures known { IfOk result (λ verdict. IsSome verdict ↔ KnowsPattern (design_terns (plain_net net.now)) pattern.now) }
+    ensures verdict { IfOk result (λ verdict. IfSome verdict (λ it. it ≡ SignedKnown pattern.now)) }
     ensures gates { IfOk result (λ verdict. HasOrderedGates (plain_net net.now)) }
 {
     let gates = lower(alloc, net)?;
-    decide_check(alloc, &gates, pattern)
+    let own = copied(alloc, pattern)?;
+    decide_check(alloc, &gates, own)
 }
 
 // What is due where a register stays unknown.
@@ -158,21 +164,16 @@ pub fn reply_check(
     alloc: Global,
     words: &[String],
     top: &str,
-    question: Question,
+    question: &Question,
 ) -> Result<Ready, NoMemory>
-    requires { IsSound question }
-    ensures due { IfOk result (λ ready. (q : Question_) → Stands q question → CheckGives (map string_bytes words.now) top.now q (plain_due ready)) }
+    requires { IsSound question.now }
+    ensures due { IfOk result (λ ready. (q : Question_) → Stands q question.now → CheckGives (map string_bytes words.now) top.now q (plain_due ready)) }
     ensures fits { IfOk result CertFits }
-    ensures gates { IfOk result (λ ready. HasOrderedGates (plain_net question.net)) }
+    ensures gates { IfOk result (λ ready. HasOrderedGates (plain_net question.now.net)) }
 {
-    let Question {
-        script,
-        net,
-        inputs,
-        pattern,
-    } = question;
-    match decided(alloc, &net, pattern)? {
-        Some(verdict) => signed(alloc, top, &script, &net, inputs, verdict),
+    let net = &question.net;
+    match decided(alloc, net, &question.pattern)? {
+        Some(verdict) => signed(alloc, top, &question.script, net, verdict),
         None => unknown(alloc, words),
     }
 }
@@ -182,21 +183,16 @@ pub fn reply_demo(
     alloc: Global,
     words: &[String],
     stages: u8,
-    question: Question,
+    question: &Question,
 ) -> Result<Ready, NoMemory>
-    requires { IsSound question }
-    ensures due { IfOk result (λ ready. (q : Question_) → Stands q question → DemoGives (map string_bytes words.now) stages q (plain_due ready)) }
+    requires { IsSound question.now }
+    ensures due { IfOk result (λ ready. (q : Question_) → Stands q question.now → DemoGives (map string_bytes words.now) stages q (plain_due ready)) }
     ensures fits { IfOk result CertFits }
-    ensures gates { IfOk result (λ ready. HasOrderedGates (plain_net question.net)) }
+    ensures gates { IfOk result (λ ready. HasOrderedGates (plain_net question.now.net)) }
 {
-    let Question {
-        script,
-        net,
-        inputs,
-        pattern,
-    } = question;
-    match decided(alloc, &net, pattern)? {
-        Some(verdict) => demonstrated(alloc, stages, &script, &net, inputs, verdict),
+    let net = &question.net;
+    match decided(alloc, net, &question.pattern)? {
+        Some(verdict) => demonstrated(alloc, stages, &question.script, net, verdict),
         None => unknown(alloc, words),
     }
 }

@@ -1,10 +1,11 @@
 -- What a run does, from what its parts do.
 use Rattle.std.proofs.Common.{◌≡◌, ◌≢◌, ◌⊎◌, inl, inr, ℕ, List, true, false, Option, Some, None, Result, Ok, Err, map, String, string_bytes, refl, sym, ap, subst, ◌∙◌}
-use Rattle.std.specs.Prelude.{IfSome, IfNone, IfOk, IsNone, IsSome}
+use Rattle.std.specs.Prelude.{IfSome, IfNone, IfOk, IsNone, IsSome, IsTrue}
 use Rattle.std.specs.List.{Contains}
 use Rattle.std.specs.declared.alloc.Global.{Global}
 use Rattle.std.specs.Io.KnownBytes.{Appends}
 use Rattle.rst_outside.specs.declared.desk.DeskFile.{DeskFile}
+use Rattle.rst_outside.specs.SureRoom.{SureRoom}
 use Rattle.rst_outside.specs.Causes.{Rose, AppendsPrefix}
 use Rattle.rst_outside.specs.Files.{IsHeldUnder, ChangesOnly}
 use Rattle.rst_reject.specs.Steps.{refused, goes_on}
@@ -16,7 +17,7 @@ use Rattle.rst_answer.specs.declared.answer.Outcome.{Outcome}
 use Rattle.rst_answer.specs.Answers.{Due, outcome_of, no_memory, unread_of, usage_due, usage_line, Carries}
 use Rattle.rst_due.specs.Due.{CommandRuns, IsDue}
 use Rattle.rst_due.specs.Asked.{loaded}
-use Rattle.rst_sign.specs.Run.{Outside, Writes, Runs, Answers, IsRun, IsLoaded, HasGates, saved_under, name_in, cert_name}
+use Rattle.rst_sign.specs.Run.{Outside, FitsIn, FitsUnder, HasRoom, Writes, Runs, Answers, IsRun, IsLoaded, HasGates, saved_under, name_in, cert_name}
 
 -- an outcome that carries an answer isn't that of want of memory
 no_memory_not : (a : Answer) → (outcome_of a).status ≢ NoMemory
@@ -79,8 +80,11 @@ map_told (Some x) P Q each holds = each x holds
 -- a run of words that spell no command puts the usage line
 pub usage_run : (words : List (List ℕ)) (old new : Outside) (outcome : Outcome) (line : List ℕ) → line ≡ usage_line → command_of words ≡ None → new.files ≡ old.files
     → Carries answer.NoCommand outcome → (outcome.status ≡ WriteFault → Rose old.put_faults new.put_faults)
-    → (outcome ≡ outcome_of answer.NoCommand → Appends old.taken new.taken line) → AppendsPrefix old.taken new.taken line → IsRun words old new outcome
-usage_run words old new outcome line is none files carries cause text_put prefix_put =
+    → (outcome ≡ outcome_of answer.NoCommand → Appends old.taken new.taken line) → AppendsPrefix old.taken new.taken line
+    → (FitsIn old.put_room line → outcome ≡ outcome_of answer.NoCommand) → IsRun words old new outcome
+usage_run words old new outcome line is none files carries cause text_put prefix_put fits_put =
+    let R : List ℕ → Type 0 = λ l. FitsIn old.put_room l → outcome ≡ outcome_of answer.NoCommand in
+    let fits : FitsIn old.put_room usage_line → outcome ≡ outcome_of answer.NoCommand = subst R is fits_put in
     let W : List ℕ → Type 0 = λ l. outcome ≡ outcome_of answer.NoCommand → Appends old.taken new.taken l in
     let text : outcome ≡ outcome_of answer.NoCommand → Appends old.taken new.taken usage_line = subst W is text_put in
     let X : List ℕ → Type 0 = λ l. AppendsPrefix old.taken new.taken l in
@@ -94,6 +98,7 @@ usage_run words old new outcome line is none files carries cause text_put prefix
       put_failed = λ status. tt;
       others = unchanged (cert_name words) old.files new.files files;
       kept = files;
+      roomy = λ room. fits room.put;
     } in
     let unread_none : outcome.unread ≡ None = unread_carried answer.NoCommand outcome carries in
     let U : Option ℕ → Type 0 = λ o. IfSome o (λ place. IsLoaded words place × Rose old.load_faults new.load_faults) in
@@ -101,6 +106,7 @@ usage_run words old new outcome line is none files carries cause text_put prefix
       due = usage_due;
       writes = writes;
       is = each_told old.files (λ files. IsDue words files outcome.unread usage_due) (λ files. refused usage_due (none, refl) refl);
+      sure = λ _. each_told old.files (λ files. IsDue words files None usage_due) (λ files. refused usage_due (none, refl) refl);
       gates = each_told old.files (λ files. (command : Command) → command_of words ≡ Some command → HasGates words files outcome.unread command)
           (λ files command spelled. let never = sym none ∙ spelled in cc);
       usage = λ _. refl;
@@ -113,7 +119,7 @@ usage_run words old new outcome line is none files carries cause text_put prefix
     }
 
 -- what is delivered where an answer is due
-pub record Delivers (name : List ℕ) (due : Due) (files : Option (List DeskFile)) (saves : ℕ) (old new : Outside) (outcome : Outcome) : Type 0 where
+pub record Delivers (name : List ℕ) (due : Due) (files : Option (List DeskFile)) (saves : ℕ) (room : Option SureRoom) (old new : Outside) (outcome : Outcome) : Type 0 where
   pub carries : Carries due.answer outcome
   pub cause : outcome.status ≡ WriteFault → Rose saves new.save_faults ⊎ Rose old.put_faults new.put_faults
   pub text : outcome ≡ outcome_of due.answer → Appends old.taken new.taken due.text
@@ -124,15 +130,19 @@ pub record Delivers (name : List ℕ) (due : Due) (files : Option (List DeskFile
       ⊎ ((new.taken ≡ old.taken) × Rose saves new.save_faults))
   pub others : ChangesOnly name files new.files
   pub kept : IfNone due.cert (new.files ≡ files)
+  pub roomy : HasRoom name due room old.put_room → outcome ≡ outcome_of due.answer
 
-pub delivered_runs : (words : List (List ℕ)) (command : Command) (old new : Outside) (outcome : Outcome) (due : Due) (name : List ℕ) (files : Option (List DeskFile)) (loads saves : ℕ)
+pub delivered_runs : (words : List (List ℕ)) (command : Command) (old new : Outside) (outcome : Outcome) (due : Due) (name : List ℕ) (files : Option (List DeskFile)) (loads saves : ℕ) (room : Option SureRoom)
     → name ≡ saved_under command → IfSome old.files (λ told. CommandRuns words told (unread_of due.answer) command (Err due))
     → IfSome old.files (λ told. HasGates words told (unread_of due.answer) command)
     → IfSome (unread_of due.answer) (λ place. Contains (loaded command) place × Rose old.load_faults loads) → due.answer ≢ answer.NoCommand
-    → files ≡ old.files → saves ≡ old.save_faults → new.load_faults ≡ loads → Delivers name due files saves old new outcome → Runs words command old new outcome
-delivered_runs words command old new outcome due name files loads saves name_is is_due gates risen some files_same saves_same loads_same delivers =
-    let N : List ℕ → Type 0 = λ n. Delivers n due files saves old new outcome in
-    let d : Delivers (saved_under command) due files saves old new outcome = subst N name_is delivers in
+    → files ≡ old.files → saves ≡ old.save_faults → new.load_faults ≡ loads → room ≡ old.save_room
+    → (IsTrue old.sure_loads → IfSome old.files (λ told. CommandRuns words told None command (Err due)))
+    → Delivers name due files saves room old new outcome → Runs words command old new outcome
+delivered_runs words command old new outcome due name files loads saves room name_is is_due gates risen some files_same saves_same loads_same room_same sure delivers =
+    let N : List ℕ → Type 0 = λ n. Delivers n due files saves room old new outcome in
+    let d : Delivers (saved_under command) due files saves room old new outcome = subst N name_is delivers in
+    let H : Option SureRoom → Type 0 = λ r. HasRoom (saved_under command) due r old.put_room → outcome ≡ outcome_of due.answer in
     let F : Option (List DeskFile) → Type 0 = λ o. ChangesOnly (saved_under command) o new.files in
     let K : Option (List DeskFile) → Type 0 = λ o. IfNone due.cert (new.files ≡ o) in
     let C : ℕ → Type 0 = λ n. outcome.status ≡ WriteFault → Rose n new.save_faults ⊎ Rose old.put_faults new.put_faults in
@@ -147,6 +157,7 @@ delivered_runs words command old new outcome due name files loads saves name_is 
       put_failed = subst Q saves_same d.put_failed;
       others = subst F files_same d.others;
       kept = subst K files_same d.kept;
+      roomy = subst H room_same d.roomy;
     } in
     let unread_is : outcome.unread ≡ unread_of due.answer = unread_carried due.answer outcome d.carries in
     let U : Option ℕ → Type 0 = λ o. IfSome o (λ place. Contains (loaded command) place × Rose old.load_faults new.load_faults) in
@@ -157,6 +168,7 @@ delivered_runs words command old new outcome due name files loads saves name_is 
       due = due;
       writes = writes;
       runs = subst D (sym unread_is) is_due;
+      sure = sure;
       gates = subst G (sym unread_is) gates;
       some = some;
       unread = subst U (sym unread_is) (subst L (sym loads_same) risen);
@@ -171,6 +183,7 @@ command_run words command old new outcome spelled r =
       due = r.due;
       writes = subst W (sym spelled) r.writes;
       is = map_told old.files (λ files. CommandRuns words files outcome.unread command (Err r.due)) (λ files. IsDue words files outcome.unread r.due) (λ files runs. goes_on command spelled runs) r.runs;
+      sure = λ loads. map_told old.files (λ files. CommandRuns words files None command (Err r.due)) (λ files. IsDue words files None r.due) (λ files runs. goes_on command spelled runs) (r.sure loads);
       gates = map_told old.files (λ files. HasGates words files outcome.unread command)
           (λ files. (c : Command) → command_of words ≡ Some c → HasGates words files outcome.unread c)
           (λ files gates c also.
@@ -200,11 +213,12 @@ memory_run words command old new outcome spelled is same =
     }
 
 -- what a call that may run out of memory delivers
-pub delivered : {E : Type 0} (words : List (List ℕ)) (command : Command) (old new : Outside) (result : Result Outcome E) (due : Due) (name : List ℕ) (files : Option (List DeskFile)) (loads saves : ℕ)
+pub delivered : {E : Type 0} (words : List (List ℕ)) (command : Command) (old new : Outside) (result : Result Outcome E) (due : Due) (name : List ℕ) (files : Option (List DeskFile)) (loads saves : ℕ) (room : Option SureRoom)
     → name ≡ saved_under command → IfSome old.files (λ told. CommandRuns words told (unread_of due.answer) command (Err due))
     → IfSome old.files (λ told. HasGates words told (unread_of due.answer) command)
     → IfSome (unread_of due.answer) (λ place. Contains (loaded command) place × Rose old.load_faults loads) → due.answer ≢ answer.NoCommand
-    → files ≡ old.files → saves ≡ old.save_faults → new.load_faults ≡ loads
+    → files ≡ old.files → saves ≡ old.save_faults → new.load_faults ≡ loads → room ≡ old.save_room
+    → (IsTrue old.sure_loads → IfSome old.files (λ told. CommandRuns words told None command (Err due)))
     → IfOk result (λ o. Carries due.answer o)
     → IfOk result (λ o. o.status ≡ WriteFault → Rose saves new.save_faults ⊎ Rose old.put_faults new.put_faults)
     → IfOk result (λ o. o ≡ outcome_of due.answer → Appends old.taken new.taken due.text)
@@ -212,9 +226,10 @@ pub delivered : {E : Type 0} (words : List (List ℕ)) (command : Command) (old 
     → IfOk result (λ o. o ≡ outcome_of due.answer → IfSome due.cert (λ cert. IfSome new.files (IsHeldUnder name cert)))
     → IfOk result (λ o. o.status ≡ WriteFault → IfSome due.cert (λ cert.
     (IfSome new.files (IsHeldUnder name cert) × Rose old.put_faults new.put_faults) ⊎ ((new.taken ≡ old.taken) × Rose saves new.save_faults)))
-    → ChangesOnly name files new.files → IfNone due.cert (new.files ≡ files) → IfOk result (λ o. Runs words command old new o)
-delivered words command old new (Ok o) due name files loads saves name_is is_due gates risen some files_same saves_same loads_same carries cause text prefix saved put_failed others kept =
-    delivered_runs words command old new o due name files loads saves name_is is_due gates risen some files_same saves_same loads_same (record {
+    → ChangesOnly name files new.files → IfNone due.cert (new.files ≡ files)
+    → IfOk result (λ o. HasRoom name due room old.put_room → o ≡ outcome_of due.answer) → IfOk result (λ o. Runs words command old new o)
+delivered words command old new (Ok o) due name files loads saves room name_is is_due gates risen some files_same saves_same loads_same room_same sure carries cause text prefix saved put_failed others kept roomy =
+    delivered_runs words command old new o due name files loads saves room name_is is_due gates risen some files_same saves_same loads_same room_same sure (record {
       carries = carries;
       cause = cause;
       text = text;
@@ -223,8 +238,9 @@ delivered words command old new (Ok o) due name files loads saves name_is is_due
       put_failed = put_failed;
       others = others;
       kept = kept;
+      roomy = roomy;
     })
-delivered words command old new (Err e) due name files loads saves name_is is_due gates risen some files_same saves_same loads_same carries cause text prefix saved put_failed others kept = tt
+delivered words command old new (Err e) due name files loads saves room name_is is_due gates risen some files_same saves_same loads_same room_same sure carries cause text prefix saved put_failed others kept roomy = tt
 
 -- words that are the same run the same
 pub same_run : (a b : List (String Global)) (old new : Outside) (outcome : Outcome) → a ≡ b → IsRun (map string_bytes a) old new outcome → IsRun (map string_bytes b) old new outcome

@@ -1,5 +1,6 @@
 pub mod Prefix
 pub mod Saving
+pub mod Rooms
 pub mod Codes
 pub mod Endings
 pub mod Reading

@@ -1,6 +1,6 @@
 -- The promises of a run, each from what `act` says of it and from the laws that at most one answer is due, and that known patterns reset.
 use Rattle.std.proofs.Common.{◌≡◌, ◌≢◌, ◌⊎◌, ◌↔◌, inl, inr, ℕ, List, [], ◌∷◌, codes, true, false, Option, Some, None, Ok, Err, refl, sym, ap, subst, ◌∙◌}
-use Rattle.std.specs.Prelude.{IfSome, IfNone, IsNone, IsSome}
+use Rattle.std.specs.Prelude.{IfSome, IfNone, IsNone, IsSome, IsTrue}
 use Rattle.std.specs.Io.KnownBytes.{Appends}
 use Rattle.rst_outside.specs.declared.desk.DeskFile.{DeskFile}
 use Rattle.rst_outside.specs.Causes.{Rose}
@@ -25,7 +25,7 @@ use Rattle.rst_question.specs.Questions.{Question, QuestionGives, netlist}
 use Rattle.rst_replies.specs.Replies.{Knows, HasOrderedGates, not_known, shown_due}
 use Rattle.rst_due.specs.Due.{IsDue, places_of, no_places}
 use Rattle.rst_due.specs.Asked.{CommandAsks, IsDecided, IsShown}
-use Rattle.rst_sign.specs.Run.{Outside, Writes, Answers, IsRun, IsLoaded, HasGates, cert_name}
+use Rattle.rst_sign.specs.Run.{Outside, HasRoom, Writes, Answers, IsRun, IsLoaded, HasGates, cert_name}
 use Rattle.rst_sign.specs.Promises.{Resets, IsUnknown, IsUnread, IsRefused, is_check}
 use Rattle.rst_sign.proofs.Acting.{unchanged}
 use Rattle.rst_sign.proofs.Endings.{Ending, no_command, unread, rejected, unknown, checked, demonstrated, shown, ending, due_of_decided, due_of_unknown, due_of_shown}
@@ -136,6 +136,13 @@ read_fault_whole (answer.Unread place) is = refl
 read_fault_whole (answer.Refused reject) is = let x : Rejected ≡ ReadFault = is in cc
 read_fault_whole answer.Shown is = let x : status.Shown ≡ ReadFault = is in cc
 read_fault_whole (answer.Decided v) is = let x : Signed ≡ ReadFault = is in cc
+
+no_fault : (a : Answer) → (outcome_of a).status ≢ WriteFault
+no_fault answer.NoCommand is = let x : Usage ≡ WriteFault = is in cc
+no_fault (answer.Unread place) is = let x : ReadFault ≡ WriteFault = is in cc
+no_fault (answer.Refused reject) is = let x : Rejected ≡ WriteFault = is in cc
+no_fault answer.Shown is = let x : status.Shown ≡ WriteFault = is in cc
+no_fault (answer.Decided v) is = let x : Signed ≡ WriteFault = is in cc
 
 no_memory_whole : (a : Answer) → (outcome_of a).status ≡ NoMemory → outcome_of a ≡ no_memory
 no_memory_whole answer.NoCommand is = let x : Usage ≡ NoMemory = is in cc
@@ -281,6 +288,21 @@ module _ (words : List (List ℕ)) (old new : Outside) (outcome : Outcome) (run 
       let a = written memory in
       let P : Due → Type 0 = λ d. Writes (cert_name words) d old new outcome in
       subst P (one words files outcome.unread a.due due (is_told a files told) is) a.writes
+
+  -- where loads are sure, what is due where none has failed
+  pub sure_told : (files : List DeskFile) → old.files ≡ Some files → IsTrue old.sure_loads → outcome.status ≢ NoMemory
+      → (due : Due) × IsDue words files None due × Carries due.answer outcome
+  sure_told files told sure memory =
+      let a = written memory in
+      (a.due, at_told old.files (λ files. IsDue words files None a.due) files told (a.sure sure), a.writes.carries)
+
+  -- within sure room no write fails
+  pub room_kept : OneDue → (files : List DeskFile) → old.files ≡ Some files → (due : Due) → IsDue words files outcome.unread due
+      → HasRoom (cert_name words) due old.save_room old.put_room → outcome.status ≢ WriteFault
+  room_kept one files told due is room status =
+      let memory : outcome.status ≢ NoMemory = λ e. let x : WriteFault ≡ NoMemory = sym status ∙ e in cc in
+      let whole = (writes one files told memory due is).roomy room in
+      no_fault due.answer (sym (ap (λ (o : Outcome). o.status) whole) ∙ status)
 
   -- the outcome is that of a due answer, or that of want of memory
   shape : (P : Outcome → Type 0) → P no_memory → ((a : Answer) → P (outcome_of a)) → ((a : Answer) → P (fault_of a)) → P outcome

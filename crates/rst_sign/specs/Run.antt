@@ -1,27 +1,46 @@
 -- What a run does to the outside, whatever its command.
-use Rattle.std.specs.Prelude.{◌≡◌, ◌≢◌, ◌⊎◌, ℕ, List, [], Option, Some, None, IfSome, IfNone, IsNone, IsSome, Err}
+use Rattle.std.specs.Prelude.{◌≡◌, ◌≢◌, ◌⊎◌, ◌≤◌, ℕ, Bool, List, [], length, Option, Some, None, IfSome, IfNone, IsNone, IsSome, IsTrue, Err}
 use Rattle.std.specs.List.{Contains}
 use Rattle.std.specs.Io.KnownBytes.{Appends}
 use Rattle.rst_outside.specs.declared.desk.DeskFile.{DeskFile}
+use Rattle.rst_outside.specs.SureRoom.{SureRoom}
 use Rattle.rst_outside.specs.Causes.{Rose, AppendsPrefix}
 use Rattle.rst_outside.specs.Files.{IsHeldUnder, ChangesOnly}
 use Rattle.rst_command.specs.Commands.{Command, Check, Known, Demo, command_of}
 use Rattle.rst_answer.specs.declared.answer.Status.TheVariants.{WriteFault, NoMemory}
 use Rattle.rst_answer.specs.declared.answer.Outcome.{Outcome}
 use Rattle.rst_answer.specs.declared.answer.Answer.TheVariants.{NoCommand}
-use Rattle.rst_answer.specs.Answers.{Due, no_memory, usage_due, Carries}
+use Rattle.rst_answer.specs.Answers.{Due, no_memory, outcome_of, usage_due, Carries}
 use Rattle.rst_question.specs.Questions.{Question, netlist}
 use Rattle.rst_replies.specs.Replies.{HasOrderedGates}
 use Rattle.rst_due.specs.Due.{CommandRuns, IsDue}
 use Rattle.rst_due.specs.Asked.{CommandAsks, loaded}
 
--- the desk and the sink: the files and the bytes that they tell, and their counts of faults
+-- the desk and the sink: the files and the bytes that they tell, their counts of faults, whether loads are sure, and sure room
 pub record Outside : Type 0 where
   pub files : Option (List DeskFile)
   pub load_faults : ℕ
   pub save_faults : ℕ
+  pub sure_loads : Bool
+  pub save_room : Option SureRoom
   pub taken : Option (List ℕ)
   pub put_faults : ℕ
+  pub put_room : Option ℕ
+
+-- the sure room of a sink is enough for a text
+abbrev pub FitsIn : Option ℕ → List ℕ → Type 0
+FitsIn None text = ⊥
+FitsIn (Some room) text = length text ≤ room
+
+-- the sure room of a desk stands under the name, and is enough for a text
+abbrev pub FitsUnder : Option SureRoom → List ℕ → List ℕ → Type 0
+FitsUnder None name text = ⊥
+FitsUnder (Some room) name text = (room.name ≡ name) × (length text ≤ room.left)
+
+-- there is sure room for all that is due
+pub record HasRoom (name : List ℕ) (due : Due) (save_room : Option SureRoom) (put_room : Option ℕ) : Type 0 where
+  pub put : FitsIn put_room due.text
+  pub saved : IfSome due.cert (FitsUnder save_room name)
 
 -- the name under which a command saves its certificate: CERT of `check`; no other command saves one
 abbrev pub saved_under : Command → List ℕ
@@ -58,6 +77,8 @@ pub record Writes (name : List ℕ) (due : Due) (old new : Outside) (outcome : O
   -- no other file changes, and none where no certificate is due
   pub others : ChangesOnly name old.files new.files
   pub kept : IfNone due.cert (new.files ≡ old.files)
+  -- within sure room no write fails
+  pub roomy : HasRoom name due old.save_room old.put_room → outcome ≡ outcome_of due.answer
 
 -- the design of each question that the command asks has gates that read earlier nodes only
 abbrev pub HasGates : List (List ℕ) → List DeskFile → Option ℕ → Command → Type 0
@@ -68,6 +89,8 @@ pub record Runs (words : List (List ℕ)) (command : Command) (old new : Outside
   pub due : Due
   pub writes : Writes (saved_under command) due old new outcome
   pub runs : IfSome old.files (λ files. CommandRuns words files outcome.unread command (Err due))
+  -- where loads are sure, it is what is due where none has failed
+  pub sure : IsTrue old.sure_loads → IfSome old.files (λ files. CommandRuns words files None command (Err due))
   pub gates : IfSome old.files (λ files. HasGates words files outcome.unread command)
   pub some : due.answer ≢ NoCommand
   pub unread : IfSome outcome.unread (λ place. Contains (loaded command) place × Rose old.load_faults new.load_faults)
@@ -82,6 +105,7 @@ pub record Answers (words : List (List ℕ)) (old new : Outside) (outcome : Outc
   pub due : Due
   pub writes : Writes (cert_name words) due old new outcome
   pub is : IfSome old.files (λ files. IsDue words files outcome.unread due)
+  pub sure : IsTrue old.sure_loads → IfSome old.files (λ files. IsDue words files None due)
   pub gates : IfSome old.files (λ files. (command : Command) → command_of words ≡ Some command → HasGates words files outcome.unread command)
   -- the usage line is due of words that spell no command, and of no others
   pub usage : IsNone (command_of words) → due ≡ usage_due

@@ -1,5 +1,5 @@
 // The top call.
-ghost use Rattle.std.specs.Prelude.{◌≡◌, ◌≢◌, ◌⊎◌, ◌↔◌, ℕ, List, None, Some, IfSome, IfNone, IsNone, IsSome, IfOk, IfErr, map, string_bytes, false};
+ghost use Rattle.std.specs.Prelude.{◌≡◌, ◌≢◌, ◌⊎◌, ◌↔◌, ℕ, List, None, Some, IfSome, IfNone, IsNone, IsSome, IsTrue, IfOk, IfErr, map, string_bytes, false};
 ghost use Rattle.std.specs.Io.KnownBytes.{Appends};
 ghost use Rattle.rst_outside.specs.Causes.{Rose, AppendsPrefix};
 ghost use Rattle.rst_outside.specs.Files.{IsHeldUnder, ChangesOnly};
@@ -13,7 +13,7 @@ ghost use Rattle.rst_question.specs.Questions.{Question};
 ghost use Rattle.rst_replies.specs.Replies.{not_known, shown_due};
 ghost use Rattle.rst_due.specs.Due.{IsDue};
 ghost use Rattle.rst_due.specs.Asked.{IsDecided, IsShown};
-ghost use Rattle.rst_sign.specs.Run.{Outside, IsLoaded, IsRun, Runs, cert_name, saved_under};
+ghost use Rattle.rst_sign.specs.Run.{Outside, HasRoom, IsLoaded, IsRun, Runs, cert_name, saved_under};
 ghost use Rattle.rst_sign.specs.Promises.{IsRefused, IsUnknown, IsUnread, Resets, is_check};
 
 use crate::deliver::{deliver, put_answer};
@@ -48,15 +48,21 @@ fn act_on<K: Desk, S: Sink>(
       files = K.files desk.old;
       load_faults = K.load_faults desk.old;
       save_faults = K.save_faults desk.old;
+      sure_loads = K.sure_loads desk.old;
+      save_room = K.sure_room desk.old;
       taken = S.taken sink.old;
       put_faults = S.faults sink.old;
+      put_room = S.sure_room sink.old;
     } in
         let new : Outside = record {
           files = K.files desk.new;
           load_faults = K.load_faults desk.new;
           save_faults = K.save_faults desk.new;
+          sure_loads = K.sure_loads desk.new;
+          save_room = K.sure_room desk.new;
           taken = S.taken sink.new;
           put_faults = S.faults sink.new;
+          put_room = S.sure_room sink.new;
         } in
         IfOk result (Runs (map string_bytes words.now) (plain_command command.entry) old new) }
     ensures nothing { IfErr result (λ _. (K.files desk.new ≡ K.files desk.old) × (S.taken sink.new ≡ S.taken sink.old)) }
@@ -73,15 +79,21 @@ fn act<K: Desk, S: Sink>(alloc: Global, words: &Vec<String>, desk: &mut K, sink:
       files = K.files desk.old;
       load_faults = K.load_faults desk.old;
       save_faults = K.save_faults desk.old;
+      sure_loads = K.sure_loads desk.old;
+      save_room = K.sure_room desk.old;
       taken = S.taken sink.old;
       put_faults = S.faults sink.old;
+      put_room = S.sure_room sink.old;
     } in
         let new : Outside = record {
           files = K.files desk.new;
           load_faults = K.load_faults desk.new;
           save_faults = K.save_faults desk.new;
+          sure_loads = K.sure_loads desk.new;
+          save_room = K.sure_room desk.new;
           taken = S.taken sink.new;
           put_faults = S.faults sink.new;
+          put_room = S.sure_room sink.new;
         } in
         IsRun (map string_bytes words.now.items) old new result }
 {
@@ -173,6 +185,10 @@ pub fn run<K: Desk, S: Sink>(
     ensures earlier_held { IfSome result.unread (λ place. IfSome (K.files desk.old) (λ files.
         IsUnread (map string_bytes words.now.items) files place)) }
 
+    // Where the desk's loads are sure, what is due is what is due where no load has failed: a read fault then comes of an absent file alone.
+    ensures sure_loads { IsTrue (K.sure_loads desk.old) → result.status ≢ Status.NoMemory → IfSome (K.files desk.old) (λ files.
+        (due : Due) × IsDue (map string_bytes words.now.items) files None due × Carries due.answer result) }
+
     // REJECTED. The refusal, with its code, file, name and number, is exactly the one that the steps of the words come to first. `NotKnown`
     // comes exactly of a question behind whose pattern a register is unknown.
     ensures rejected { result.status ≡ Status.Rejected → IsSome result.reject }
@@ -212,6 +228,11 @@ pub fn run<K: Desk, S: Sink>(
     // WRITE FAULT. Only where a save or a put of this call is counted as failed.
     ensures write_fault { result.status ≡ Status.WriteFault
         → Rose (K.save_faults desk.old) (K.save_faults desk.new) ⊎ Rose (S.faults sink.old) (S.faults sink.new) }
+
+    // Within the sure room of the desk, under CERT, and of the sink no write fails.
+    ensures sure_room { IfSome (K.files desk.old) (λ files. (due : Due) → IsDue (map string_bytes words.now.items) files result.unread due
+        → HasRoom (cert_name (map string_bytes words.now.items)) due (K.sure_room desk.old) (S.sure_room sink.old)
+        → result.status ≢ Status.WriteFault) }
 
     // NO MEMORY. Only of a command; the outcome keeps nothing, and no file changes.
     ensures no_memory { result.status ≡ Status.NoMemory → result ≡ no_memory }

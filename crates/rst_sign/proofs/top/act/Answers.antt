@@ -11,7 +11,7 @@ returns-in_default g c =
     same_run c.as_slice-list.result.now c.args.words.now.items _ _ _ c.as_slice-list.ensures.value
     (usage_run (map string_bytes c.as_slice-list.result.now) _ _ c.put_answer.result c.usage.result.now c.usage.ensures
     (sym c.read_command.ensures ∙ ap (λ (o : Option read.Command). option_map plain_command o) c.in_default.is) refl
-    c.put_answer.ensures.carries c.put_answer.ensures.cause c.put_answer.ensures.whole c.put_answer.ensures.prefix)
+    c.put_answer.ensures.carries c.put_answer.ensures.cause c.put_answer.ensures.whole c.put_answer.ensures.prefix c.put_answer.ensures.fits)
 
 pub returns-in-Ok : goal.returns-in-Ok
 returns-in-Ok g c =

@@ -1,6 +1,6 @@
 -- Each promise of the top call.
 use Rattle.std.specs.Prelude.{map, string_bytes}
-use Rattle.rst_sign.proofs.Promises.{if_told, not_no_memory, other_files, due_told, writes, signed_promise, verdict_exactly, always_signed, shown_promise, always_shown, usage_promise, usage_only, usage_text, read_fault_has, rejected_has, unread_promise, refused_exactly, not_known_exactly, kept_verdict, kept_reject, kept_unread, no_certificate, only_check, write_fault, no_memory_keeps, memory_is}
+use Rattle.rst_sign.proofs.Promises.{if_told, not_no_memory, other_files, due_told, sure_told, room_kept, writes, signed_promise, verdict_exactly, always_signed, shown_promise, always_shown, usage_promise, usage_only, usage_text, read_fault_has, rejected_has, unread_promise, refused_exactly, not_known_exactly, kept_verdict, kept_reject, kept_unread, no_certificate, only_check, write_fault, no_memory_keeps, memory_is}
 use Rattle.rst_sign.proofs.top.run.Goals as goal
 
 pub returns-clause-due : goal.returns-clause-due
@@ -122,3 +122,11 @@ returns-clause-memory_command g c =
 pub returns-clause-nothing_saved : goal.returns-clause-nothing_saved
 returns-clause-nothing_saved g c =
     λ status. (c.act.ensures.nothing status).1.files
+
+pub returns-clause-sure_loads : goal.returns-clause-sure_loads
+returns-clause-sure_loads g c =
+    λ sure memory. if_told (g.K.Desk.files c.args.desk.now) _ (λ files told. sure_told (map string_bytes c.args.words.now.items) _ _ c.act.result c.act.ensures files told sure memory)
+
+pub returns-clause-sure_room : goal.returns-clause-sure_room
+returns-clause-sure_room g c =
+    if_told (g.K.Desk.files c.args.desk.now) _ (λ files told. room_kept (map string_bytes c.args.words.now.items) _ _ c.act.result c.act.ensures c.one_due.ensures files told)
