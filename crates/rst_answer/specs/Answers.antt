@@ -5,7 +5,9 @@ use Rattle.rst_certificate.specs.CertText.{cert_text, VersionFits}
 use Rattle.rst_reject.specs.declared.reject.Reject.{Reject}
 use Rattle.rst_reject.specs.Lines.{file_part, refusal_line}
 use Rattle.rst_answer.specs.declared.answer.Status.{Status}
-use Rattle.rst_answer.specs.declared.answer.Status.TheVariants.{Signed, Shown, Usage, ReadFault, WriteFault, Rejected, NoMemory}
+use Rattle.rst_verdict.specs.declared.verdict.Verdict.{Verdict}
+use Rattle.rst_verdict.specs.declared.verdict.Verdict.TheVariants as verdict
+use Rattle.rst_answer.specs.declared.answer.Status.TheVariants.{Signed, Shown, Usage, ReadFault, WriteFault, Rejected, NoMemory, Refuted, NonResettable, Alignable, Unknown}
 use Rattle.rst_answer.specs.declared.answer.Outcome.{Outcome}
 use Rattle.rst_answer.specs.declared.answer.Answer.{Answer}
 use Rattle.rst_answer.specs.declared.answer.Answer.TheVariants as answer
@@ -21,6 +23,19 @@ number_of ReadFault = 3
 number_of WriteFault = 4
 number_of Rejected = 5
 number_of NoMemory = 6
+number_of Refuted = 10
+number_of NonResettable = 11
+number_of Alignable = 12
+number_of Unknown = 13
+
+-- the status of a verdict
+abbrev pub status_of : Verdict → Status
+status_of (verdict.SignedKnown seq) = Signed
+status_of (verdict.SignedRelation seq equal blocked split land) = Signed
+status_of (verdict.Refuted seq a b word) = Refuted
+status_of (verdict.Never a b blocked freed escape) = NonResettable
+status_of (verdict.Alignable seq a b word blocked freed split stuck) = Alignable
+status_of (verdict.Unknown equal journal) = Unknown
 
 -- the outcome of a run that wrote all that was due: verdict, refusal or unread file exactly where due
 abbrev pub outcome_of : Answer → Outcome
@@ -28,7 +43,7 @@ outcome_of answer.NoCommand = record { status = Usage; verdict = None; reject = 
 outcome_of (answer.Unread place) = record { status = ReadFault; verdict = None; reject = None; unread = Some place }
 outcome_of (answer.Refused reject) = record { status = Rejected; verdict = None; reject = Some reject; unread = None }
 outcome_of answer.Shown = record { status = Shown; verdict = None; reject = None; unread = None }
-outcome_of (answer.Decided verdict) = record { status = Signed; verdict = Some verdict; reject = None; unread = None }
+outcome_of (answer.Decided found) = record { status = status_of found; verdict = Some found; reject = None; unread = None }
 
 -- the outcome of a run in which a write failed: it keeps what was due
 abbrev pub fault_of : Answer → Outcome

@@ -1,6 +1,6 @@
 // How a run ends.
 ghost use Rattle.std.specs.Prelude.{◌≡◌, None};
-ghost use Rattle.rst_answer.specs.Answers.{number_of, outcome_of, fault_of, no_memory};
+ghost use Rattle.rst_answer.specs.Answers.{number_of, status_of, outcome_of, fault_of, no_memory};
 
 use rst_reject::Reject;
 use rst_verdict::Verdict;
@@ -22,6 +22,14 @@ pub enum Status {
     Rejected,
     /// Memory ran out. Nothing was saved or put.
     NoMemory,
+    /// The pattern is no essential reset sequence of the design: behind a filling of it two power-up states give different outputs.
+    Refuted,
+    /// No sequence aligns two of the design's power-up states.
+    NonResettable,
+    /// The design is resettable, but no sequence was built within the bound of cycles.
+    Alignable,
+    /// The budget was spent before anything was found.
+    Unknown,
 }
 
 impl Status {
@@ -36,6 +44,23 @@ impl Status {
             Status::WriteFault => 4,
             Status::Rejected => 5,
             Status::NoMemory => 6,
+            Status::Refuted => 10,
+            Status::NonResettable => 11,
+            Status::Alignable => 12,
+            Status::Unknown => 13,
+        }
+    }
+
+    // The status of a verdict.
+    fn of(verdict: &Verdict) -> Status
+        ensures { result ≡ status_of verdict.now }
+    {
+        match verdict {
+            Verdict::SignedKnown { .. } | Verdict::SignedRelation { .. } => Status::Signed,
+            Verdict::Refuted { .. } => Status::Refuted,
+            Verdict::Never { .. } => Status::NonResettable,
+            Verdict::Alignable { .. } => Status::Alignable,
+            Verdict::Unknown { .. } => Status::Unknown,
         }
     }
 }
@@ -89,7 +114,7 @@ impl Answer {
             },
             Answer::Shown => plain_outcome(Status::Shown),
             Answer::Decided(verdict) => Outcome {
-                status: Status::Signed,
+                status: Status::of(&verdict),
                 verdict: Some(verdict),
                 reject: None,
                 unread: None,

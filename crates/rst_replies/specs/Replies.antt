@@ -1,6 +1,5 @@
--- What a question is answered: what three-valued simulation of its design knows, the report and the certificate of a signed pattern, the
--- rows of known registers.
-use Rattle.std.specs.Prelude.{◌≡◌, ◌⊎◌, ℕ, Bool, List, [], ◌++◌, length, codes, replicate, if◌then◌else◌, Option, None, Some, Result, Ok, Err}
+-- What a question is answered: the verdict on its pattern with the report and the certificate, or the rows of known registers.
+use Rattle.std.specs.Prelude.{◌≡◌, ◌≤◌, ℕ, Bool, List, ◌++◌, length, codes, replicate, if◌then◌else◌, None, Some}
 use Rattle.std.specs.List.{AllByRecursion}
 use Rattle.rst_outside.specs.declared.names.PortBits.{PortBits}
 use Rattle.rst_value.specs.declared.tern.Tern.{Tern}
@@ -11,9 +10,9 @@ use Rattle.rst_gate.specs.TernMachine.{KnowsPattern}
 use Rattle.rst_sim.specs.Trails.{pattern_trail}
 use Rattle.rst_text.specs.Lines.{line, counted}
 use Rattle.rst_verdict.specs.declared.verdict.Verdict.{Verdict}
-use Rattle.rst_verdict.specs.declared.verdict.Verdict.TheVariants.{SignedKnown}
 use Rattle.rst_verdict.specs.declared.cert.Cert.{Cert}
 use Rattle.rst_certificate.specs.CertText.{cert_text}
+use Rattle.rst_relation.specs.Verdicts.{Decides}
 use Rattle.rst_report.specs.declared.head.Head.{Head}
 use Rattle.rst_report.specs.Heads.{width_sum}
 use Rattle.rst_report.specs.Reports.{report_text}
@@ -25,12 +24,10 @@ use Rattle.rst_script.specs.Scripts.{PlainScript}
 use Rattle.rst_design_terms.specs.Gates.{gates_of, input_bits, state_bits}
 use Rattle.rst_known.specs.Readings.{design_terns}
 use Rattle.rst_ports.specs.Ports.{ports_with, output_ports}
-use Rattle.rst_reject.specs.declared.code.Code.TheVariants as code
-use Rattle.rst_reject.specs.declared.reject.Reject.{Reject}
-use Rattle.rst_reject.specs.Rejects.{in_design}
 use Rattle.rst_answer.specs.declared.answer.Answer.TheVariants as answer
-use Rattle.rst_answer.specs.Answers.{Due, refused_due}
+use Rattle.rst_answer.specs.Answers.{Due}
 use Rattle.rst_design.specs.Netlists.{plain_net}
+use Rattle.rst_settled.specs.Orderly.{IsOrderly}
 use Rattle.rst_net_gates.specs.Netlists.{IsLowerable}
 use Rattle.rst_question.specs.declared.question.Question as read
 use Rattle.rst_question.specs.Questions.{Question, netlist, input_ports}
@@ -76,10 +73,13 @@ cert_for script head verdict = record {
   verdict = verdict;
 }
 
--- WHAT IS DUE
+-- THE DECISION
 
-abbrev pub verdict_of : Question → Verdict
-verdict_of q = SignedKnown q.pattern
+-- the verdict is one that may be answered of the question: of the pattern and the gates of its design, within its script's budget
+abbrev pub IsVerdictOf : Question → Verdict → Type 0
+IsVerdictOf q verdict = Decides (Knows q) (gates_of (netlist q)) q.pattern q.script.budget verdict
+
+-- WHAT IS DUE
 
 -- the report, and the certificate to save
 abbrev pub check_due_for : List ℕ → PlainScript → PlainFlat → Verdict → Due
@@ -91,8 +91,8 @@ check_due_for top script flat verdict =
       cert = Some (cert_text (cert_for script head verdict));
     }
 
-abbrev pub signed_due : List ℕ → Question → Due
-signed_due top q = check_due_for top q.script q.flat (verdict_of q)
+abbrev pub check_due : List ℕ → Question → Verdict → Due
+check_due top q verdict = check_due_for top q.script q.flat verdict
 
 -- a demonstration with so many stages: a line with their number, and the report
 abbrev pub demo_due_for : ℕ → PlainScript → PlainFlat → Verdict → Due
@@ -102,8 +102,8 @@ demo_due_for stages script flat verdict = record {
   cert = None;
 }
 
-abbrev pub demo_due : ℕ → Question → Due
-demo_due stages q = demo_due_for stages q.script q.flat (verdict_of q)
+abbrev pub demo_due : ℕ → Question → Verdict → Due
+demo_due stages q verdict = demo_due_for stages q.script q.flat verdict
 
 -- the rows of known registers
 abbrev pub shown_due : Question → Due
@@ -113,22 +113,15 @@ shown_due q = record {
   cert = None;
 }
 
--- a register stays unknown
-abbrev pub not_known : Reject
-not_known = in_design code.NotKnown [] 0
-
--- a question that isn't known stops here
-abbrev pub DecisionGives : List (List ℕ) → Question → Result (Unit {0}) Due → Type 0
-DecisionGives words q (Ok done) = Knows q
-DecisionGives words q (Err due) = (Knows q → ⊥) × (due ≡ refused_due words not_known)
-
 -- WORDS OF THE CONTRACTS
 
--- a question that can be replied to: its netlist has gates, its pattern fits the inputs, and version 1 has no free bit
+-- a question that can be replied to: its netlist has gates, its pattern fits the inputs within the limits, and version 1 has no free bit
 pub record IsSound (q : read.Question) : Type 0 where
   pub lowerable : IsLowerable (plain_net q.net)
-  pub inputs : q.inputs ≡ ports_with role.Input (plain_net q.net).signals
+  pub orderly : IsOrderly (plain_net q.net)
   pub places : AllByRecursion (λ (places : List Tern). length places ≡ input_bits (plain_net q.net)) q.pattern
+  pub cycles : length q.pattern ≤ 128
+  pub budget : q.script.budget ≤ 100000
   pub version : q.script.version ≡ 1 → free_bits q.pattern ≡ 0
 
 -- each gate of the design reads earlier nodes only
@@ -136,8 +129,8 @@ abbrev pub HasOrderedGates : PlainFlat → Type 0
 HasOrderedGates flat = IsInOrder (first_gate (gates_of flat)) (gates_of flat).gates
 
 -- what is due behind the decision
-abbrev pub CheckGives : List (List ℕ) → List ℕ → Question → Due → Type 0
-CheckGives words top q due = (Knows q × (due ≡ signed_due top q)) ⊎ DecisionGives words q (Err due)
+abbrev pub CheckGives : List ℕ → Question → Due → Type 0
+CheckGives top q due = (verdict : Verdict) × IsVerdictOf q verdict × (due ≡ check_due top q verdict)
 
-abbrev pub DemoGives : List (List ℕ) → ℕ → Question → Due → Type 0
-DemoGives words stages q due = (Knows q × (due ≡ demo_due stages q)) ⊎ DecisionGives words q (Err due)
+abbrev pub DemoGives : ℕ → Question → Due → Type 0
+DemoGives stages q due = (verdict : Verdict) × IsVerdictOf q verdict × (due ≡ demo_due stages q verdict)

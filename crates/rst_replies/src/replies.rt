@@ -1,34 +1,35 @@
 // The replies to a question.
-ghost use Rattle.std.specs.Prelude.{◌≡◌, ◌↔◌, ◌++◌, List, IfOk, IsSome, IfSome, length, map, string_bytes, codes};
+ghost use Rattle.std.specs.Prelude.{◌≡◌, ◌≤◌, ◌++◌, List, IfOk, length, codes};
 ghost use Rattle.std.specs.List.{AllByRecursion};
 ghost use Rattle.rst_value.specs.declared.tern.Tern.{Tern};
 ghost use Rattle.rst_gate.specs.TernMachine.{KnowsPattern};
 ghost use Rattle.rst_sim.specs.Trails.{pattern_trail};
 ghost use Rattle.rst_text.specs.Lines.{line, counted};
-ghost use Rattle.rst_verdict.specs.declared.verdict.Verdict.TheVariants.{SignedKnown};
 ghost use Rattle.rst_certificate.specs.CertText.{free_bits_of};
+ghost use Rattle.rst_relation.specs.Verdicts.{Decides};
 ghost use Rattle.rst_report.specs.Heads.{KeepsLimits};
 ghost use Rattle.rst_net.specs.declared.signal.Role.TheVariants as role;
 ghost use Rattle.rst_script.specs.Scripts.{plain_script};
 ghost use Rattle.rst_design.specs.Netlists.{plain_net};
-ghost use Rattle.rst_design_terms.specs.Gates.{input_bits};
+ghost use Rattle.rst_settled.specs.Orderly.{IsOrderly};
+ghost use Rattle.rst_design_terms.specs.Gates.{gates_of, input_bits};
 ghost use Rattle.rst_known.specs.Readings.{design_terns};
 ghost use Rattle.rst_net_gates.specs.Netlists.{IsLowerable};
 ghost use Rattle.rst_ports.specs.Ports.{ports_with};
-ghost use Rattle.rst_answer.specs.Answers.{plain_due, refused_due, CertFits};
+ghost use Rattle.rst_answer.specs.Answers.{plain_due, CertFits};
 ghost use Rattle.rst_question.specs.Questions.{Question as Question_, Stands};
-ghost use Rattle.rst_replies.specs.Replies.{power_up, head_for, report_for, check_due_for, demo_due_for, shown_due, not_known, IsSound, HasOrderedGates, CheckGives, DemoGives};
+ghost use Rattle.rst_replies.specs.Replies.{power_up, head_for, report_for, check_due_for, demo_due_for, shown_due, IsSound, HasOrderedGates, CheckGives, DemoGives};
 
 use crate::head::{certificate, head, report};
-use rst_answer::{Answer, Ready, put_only, refused};
-use rst_decision::{decide_check, known_states};
+use rst_answer::{Answer, Ready, put_only};
+use rst_decision::known_states;
 use rst_flow::Net;
 use rst_gate::{Cube, Pattern};
 use rst_net_gates::lower;
-use rst_outside::{Bytes, Name, NoMemory};
+use rst_outside::{Bytes, NoMemory};
 use rst_ports::registers;
 use rst_question::Question;
-use rst_reject::{Code, Reject};
+use rst_relation::decide_check;
 use rst_report::{Head, known_rows};
 use rst_script::Script;
 use rst_sim::TernTrace;
@@ -36,20 +37,8 @@ use rst_text::Text;
 use rst_verdict::Verdict;
 use std::alloc::Global;
 
-// The refusal of a pattern behind which a register stays unknown.
-fn not_known(alloc: Global) -> Result<Reject, NoMemory>
-    ensures { IfOk result (λ r. r ≡ not_known) }
-{
-    Ok(Reject {
-        code: Code::NotKnown,
-        file: None,
-        name: Name::new(alloc, b"")?,
-        number: 0,
-    })
-}
-
 // What is due of a verdict: the report, and the certificate to save.
-fn signed(
+fn checked(
     alloc: Global,
     top: &str,
     script: &Script,
@@ -136,65 +125,50 @@ fn copied(alloc: Global, pattern: &Pattern) -> Result<Pattern, NoMemory>
     Ok(own)
 }
 
-// The verdict on the pattern of a design, if it is known.
-fn decided(alloc: Global, net: &Net, pattern: &Pattern) -> Result<Option<Verdict>, NoMemory>
+// The verdict on the pattern of a design, within the budget.
+fn decided(
+    alloc: Global,
+    net: &Net,
+    pattern: &Pattern,
+    budget: u32,
+) -> Result<Verdict, NoMemory>
     requires lowerable { IsLowerable (plain_net net.now) }
+    requires orderly { IsOrderly (plain_net net.now) }
     requires places { AllByRecursion (λ (places : List Tern). length places ≡ input_bits (plain_net net.now)) pattern.now }
-    ensures known { IfOk result (λ verdict. IsSome verdict ↔ KnowsPattern (design_terns (plain_net net.now)) pattern.now) }
-    ensures verdict { IfOk result (λ verdict. IfSome verdict (λ it. it ≡ SignedKnown pattern.now)) }
+    requires cycles { length pattern.now ≤ 128 }
+    requires budget { budget ≤ 100000 }
+    ensures verdict { IfOk result (λ verdict. Decides (KnowsPattern (design_terns (plain_net net.now)) pattern.now) (gates_of (plain_net net.now)) pattern.now budget verdict) }
     ensures gates { IfOk result (λ verdict. HasOrderedGates (plain_net net.now)) }
 {
     let gates = lower(alloc, net)?;
     let own = copied(alloc, pattern)?;
-    decide_check(alloc, &gates, own)
+    decide_check(alloc, &gates, own, budget)
 }
 
-// What is due where a register stays unknown.
-fn unknown(alloc: Global, words: &[String]) -> Result<Ready, NoMemory>
-    ensures due { IfOk result (λ ready. plain_due ready ≡ refused_due (map string_bytes words.now) not_known) }
-    ensures fits { IfOk result CertFits }
-{
-    let reject = not_known(alloc)?;
-    refused(alloc, words, reject)
-}
-
-/// What is due in `check`: where three-valued simulation knows every register behind the pattern, the verdict with its report and its
-/// certificate; else the refusal.
-pub fn reply_check(
-    alloc: Global,
-    words: &[String],
-    top: &str,
-    question: &Question,
-) -> Result<Ready, NoMemory>
+/// What is due in `check`: a verdict on the question's pattern, with its report and its certificate.
+pub fn reply_check(alloc: Global, top: &str, question: &Question) -> Result<Ready, NoMemory>
     requires { IsSound question.now }
-    ensures due { IfOk result (λ ready. (q : Question_) → Stands q question.now → CheckGives (map string_bytes words.now) top.now q (plain_due ready)) }
+    ensures due { IfOk result (λ ready. (q : Question_) → Stands q question.now → CheckGives top.now q (plain_due ready)) }
     ensures fits { IfOk result CertFits }
     ensures gates { IfOk result (λ ready. HasOrderedGates (plain_net question.now.net)) }
 {
     let net = &question.net;
-    match decided(alloc, net, &question.pattern)? {
-        Some(verdict) => signed(alloc, top, &question.script, net, verdict),
-        None => unknown(alloc, words),
-    }
+    let script = &question.script;
+    let verdict = decided(alloc, net, &question.pattern, script.budget)?;
+    checked(alloc, top, script, net, verdict)
 }
 
 /// What is due in `demo N`: the report behind a line with N. No certificate is saved.
-pub fn reply_demo(
-    alloc: Global,
-    words: &[String],
-    stages: u8,
-    question: &Question,
-) -> Result<Ready, NoMemory>
+pub fn reply_demo(alloc: Global, stages: u8, question: &Question) -> Result<Ready, NoMemory>
     requires { IsSound question.now }
-    ensures due { IfOk result (λ ready. (q : Question_) → Stands q question.now → DemoGives (map string_bytes words.now) stages q (plain_due ready)) }
+    ensures due { IfOk result (λ ready. (q : Question_) → Stands q question.now → DemoGives stages q (plain_due ready)) }
     ensures fits { IfOk result CertFits }
     ensures gates { IfOk result (λ ready. HasOrderedGates (plain_net question.now.net)) }
 {
     let net = &question.net;
-    match decided(alloc, net, &question.pattern)? {
-        Some(verdict) => demonstrated(alloc, stages, &question.script, net, verdict),
-        None => unknown(alloc, words),
-    }
+    let script = &question.script;
+    let verdict = decided(alloc, net, &question.pattern, script.budget)?;
+    demonstrated(alloc, stages, script, net, verdict)
 }
 
 // The registers of a design in three values along a pattern.
