@@ -1,5 +1,5 @@
 -- A question that texts ask is one of an accepted design, and can be replied to.
-use Rattle.std.proofs.Common.{◌≡◌, ◌≤◌, ◌∙◌, ℕ, ◌+◌, List, [], ◌∷◌, length, Option, Some, None, Result, Ok, Err, refl, sym, ap, subst}
+use Rattle.std.proofs.Common.{◌≡◌, ◌≤◌, ◌∙◌, ℕ, ◌+◌, List, [], ◌∷◌, length, Option, Some, None, Result, Ok, Err, refl, sym, ap, subst, arith}
 use Rattle.std.specs.List.{AllByRecursion}
 use Rattle.std.proofs.lemmas.List.Sums.{sum_by-cons}
 use Rattle.rst_outside.specs.declared.names.PortBits.{PortBits}
@@ -13,11 +13,13 @@ use Rattle.rst_cycle.specs.Signals.{width_of, with_role}
 use Rattle.rst_cycle.specs.Cycle.{bit_count}
 use Rattle.rst_flow.specs.Flows.{Passes}
 use Rattle.rst_accepted.specs.Elaborated.{IsElaborated}
+use Rattle.rst_settled.specs.Orderly.{IsOrderly}
 use Rattle.rst_agreement.specs.Fits.{DesignFits}
 use Rattle.rst_script.specs.Scripts.{PlainScript, script_of, plain_script}
 use Rattle.rst_script.specs.Fitting.{fit_of}
-use Rattle.rst_script.specs.Limits.{bits_of, IsFit}
+use Rattle.rst_script.specs.Limits.{bits_of, cycles_of, IsFit}
 use Rattle.rst_script.proofs.PatternFacts.{fits}
+use Rattle.rst_script.proofs.ScriptFacts.{keeps_limits}
 use Rattle.rst_reject.specs.declared.reject.Reject.{Reject}
 use Rattle.rst_reject.specs.Steps.{Then}
 use Rattle.rst_design.specs.Texts.{TextsGive}
@@ -71,19 +73,27 @@ places_are script q a =
     let P : ℕ → Type 0 = λ n. AllByRecursion (λ (places : List Tern). length places ≡ n) q.pattern in
     subst P same shape.places
 
-module _ (fit : (flat : PlainFlat) (order : List ℕ) → IsElaborated flat → Passes flat order → DesignFits (netlist_of flat order)) (narrow : (flat : PlainFlat) (order : List ℕ) → IsElaborated flat → (i : ℕ) → width_of (netlist_of flat order).signals i ≤ 64) where
+-- it has at most 128 clock cycles
+pub cycles_few : (script : Text) (q : Question) → IsAccepted script q → length q.pattern ≤ 128
+cycles_few script q a =
+    let shape : IsFit (input_ports q.flat) q.script.steps q.pattern = fits (input_ports q.flat) q.script.steps q.pattern a.fits in
+    let few : cycles_of q.script.steps ≤ 128 = (keeps_limits script q.script a.said).cycles in
+    omega (arith, shape.cycles, few)
+
+module _ (orderly : (flat : PlainFlat) (order : List ℕ) → IsElaborated flat → Passes flat order → IsOrderly (netlist_of flat order)) (fit : (flat : PlainFlat) (order : List ℕ) → IsElaborated flat → Passes flat order → DesignFits (netlist_of flat order)) (narrow : (flat : PlainFlat) (order : List ℕ) → IsElaborated flat → (i : ℕ) → width_of (netlist_of flat order).signals i ≤ 64) where
   pub sound : (places : Places) (top script : Text) (sources : List Text) (q : read.Question) → IsRead places top script sources q → IsSound q
   sound places top script sources q r =
       let a : IsAccepted script r.question = accepted places top script sources r.question r.asked in
       let lowerable : IsLowerable (netlist r.question) = record { fits = fit r.question.flat r.question.order a.elaborated a.passes; widths = narrow r.question.flat r.question.order a.elaborated } in
       let L : PlainFlat → Type 0 = λ flat. IsLowerable flat in
-      let I : PlainFlat → Type 0 = λ flat. q.inputs ≡ ports_with role.Input flat.signals in
       let W : PlainFlat → Type 0 = λ flat. AllByRecursion (λ (places : List Tern). length places ≡ input_bits flat) r.question.pattern in
       let N : List (List Tern) → Type 0 = λ pattern. AllByRecursion (λ (places : List Tern). length places ≡ input_bits (plain_net q.net)) pattern in
       record {
         lowerable = subst L (sym r.stands.net) lowerable;
-        inputs = subst I (sym r.stands.net) r.stands.inputs;
+        orderly = subst IsOrderly (sym r.stands.net) (orderly r.question.flat r.question.order a.elaborated a.passes);
         places = subst N (sym r.stands.pattern) (subst W (sym r.stands.net) (places_are script r.question a));
+        cycles = subst (λ (pattern : List (List Tern)). length pattern ≤ 128) (sym r.stands.pattern) (cycles_few script r.question a);
+        budget = subst (λ (said : PlainScript). said.budget ≤ 100000) (sym r.stands.script) (keeps_limits script r.question.script a.said).budget;
         version = λ one.
             ap free_bits r.stands.pattern
             ∙ none_free script r.question.script (input_ports r.question.flat) r.question.pattern a.said (sym (ap (λ (s : PlainScript). s.version) r.stands.script) ∙ one) a.fits;

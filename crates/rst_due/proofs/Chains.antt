@@ -27,7 +27,8 @@ use Rattle.rst_design.specs.Netlists.{plain_net}
 use Rattle.rst_outside.specs.declared.names.NoMemory.{NoMemory}
 use Rattle.rst_answer.specs.declared.ready.Ready.{Ready}
 use Rattle.rst_question.proofs.OneQuestion.{one_question}
-use Rattle.rst_replies.specs.Replies.{Knows, DecisionGives, CheckGives, signed_due, demo_due, shown_due, not_known, HasOrderedGates}
+use Rattle.rst_verdict.specs.declared.verdict.Verdict.{Verdict}
+use Rattle.rst_replies.specs.Replies.{CheckGives, check_due, demo_due, shown_due, HasOrderedGates}
 use Rattle.rst_replies.specs.Replies.{DemoGives as DemoReplies}
 use Rattle.rst_due.specs.declared.input.Purpose.{Purpose}
 use Rattle.rst_due.specs.declared.input.Purpose.TheVariants as purpose
@@ -66,45 +67,43 @@ stops_moved at to top top_to script script_to sources sources_to stop a t s f r 
 later_refused : (words : List (List ℕ)) (r : Reject) (due : Due) → due ≡ refused_due words r → IsLater due
 later_refused words r due is = subst IsLater (sym is) (record { unread = refl; some = λ bad. cc })
 
-later_signed : (top : List ℕ) (q : Question) (due : Due) → due ≡ signed_due top q → IsLater due
-later_signed top q due is = subst IsLater (sym is) (record { unread = refl; some = λ bad. cc })
+later_checked : (top : List ℕ) (q : Question) (verdict : Verdict) (due : Due) → due ≡ check_due top q verdict → IsLater due
+later_checked top q verdict due is = subst IsLater (sym is) (record { unread = refl; some = λ bad. cc })
 
-later_demo : (stages : ℕ) (q : Question) (due : Due) → due ≡ demo_due stages q → IsLater due
-later_demo stages q due is = subst IsLater (sym is) (record { unread = refl; some = λ bad. cc })
+later_demo : (stages : ℕ) (q : Question) (verdict : Verdict) (due : Due) → due ≡ demo_due stages q verdict → IsLater due
+later_demo stages q verdict due is = subst IsLater (sym is) (record { unread = refl; some = λ bad. cc })
 
 later_shown : (q : Question) (due : Due) → due ≡ shown_due q → IsLater due
 later_shown q due is = subst IsLater (sym is) (record { unread = refl; some = λ bad. cc })
 
 -- THE DECISION
 
-pub check_ends : (words : List (List ℕ)) (input : Input) (q : Question) (due : Due) → CheckGives words input.top q due → Ends (QuestionDecides words input purpose.Check q) due
-check_ends words input q due (inl (known, is)) = record { chain = goes_on tt known (ap Err is); later = later_signed input.top q due is }
-check_ends words input q due (inr (unknown, is)) = record { chain = refused due (unknown, is) refl; later = later_refused words not_known due is }
+pub check_ends : (input : Input) (q : Question) (due : Due) → CheckGives input.top q due → Ends (QuestionDecides input purpose.Check q) due
+check_ends input q due (verdict, decides, is) = record { chain = goes_on verdict decides (ap Err is); later = later_checked input.top q verdict due is }
 
-pub known_ends : (words : List (List ℕ)) (input : Input) (q : Question) (due : Due) → due ≡ shown_due q → Ends (QuestionDecides words input purpose.Known q) due
-known_ends words input q due is = record { chain = ap Err is; later = later_shown q due is }
+pub known_ends : (input : Input) (q : Question) (due : Due) → due ≡ shown_due q → Ends (QuestionDecides input purpose.Known q) due
+known_ends input q due is = record { chain = ap Err is; later = later_shown q due is }
 
-pub demo_ends : (words : List (List ℕ)) (stages : ℕ) (q : Question) (due : Due) → DemoReplies words stages q due → Ends (DemoDecides words stages q) due
-demo_ends words stages q due (inl (known, is)) = record { chain = goes_on tt known (ap Err is); later = later_demo stages q due is }
-demo_ends words stages q due (inr (unknown, is)) = record { chain = refused due (unknown, is) refl; later = later_refused words not_known due is }
+pub demo_ends : (stages : ℕ) (q : Question) (due : Due) → DemoReplies stages q due → Ends (DemoDecides stages q) due
+demo_ends stages q due (verdict, decides, is) = record { chain = goes_on verdict decides (ap Err is); later = later_demo stages q verdict due is }
 
 -- THE QUESTION
 
 pub texts_end : (words : List (List ℕ)) (input : Input) (texts : Texts) (purpose : Purpose) (q : Question) (due : Due) → Asks words input texts (Ok q)
-    → Ends (QuestionDecides words input purpose q) due → Ends (Then (Asks words input texts) (QuestionDecides words input purpose)) due
+    → Ends (QuestionDecides input purpose q) due → Ends (Then (Asks words input texts) (QuestionDecides input purpose)) due
 texts_end words input texts purpose q due asks ends = record { chain = goes_on q asks ends.chain; later = ends.later }
 
 pub texts_refused : (words : List (List ℕ)) (input : Input) (texts : Texts) (purpose : Purpose) (r : Reject) (due : Due)
     → QuestionGives (places_of input) input.top texts.script texts.sources (Err r) → due ≡ refused_due words r
-    → Ends (Then (Asks words input texts) (QuestionDecides words input purpose)) due
+    → Ends (Then (Asks words input texts) (QuestionDecides input purpose)) due
 texts_refused words input texts purpose r due gives is = record { chain = refused due (r, gives, is) refl; later = later_refused words r due is }
 
 pub demo_end : (words : List (List ℕ)) (stages : ℕ) (q : Question) (due : Due) → DemoGives stages (Ok q)
-    → Ends (DemoDecides words stages q) due → Ends (Then (DemoAsks words stages) (DemoDecides words stages)) due
+    → Ends (DemoDecides stages q) due → Ends (Then (DemoAsks words stages) (DemoDecides stages)) due
 demo_end words stages q due asks ends = record { chain = goes_on q asks ends.chain; later = ends.later }
 
 pub demo_refused : (words : List (List ℕ)) (stages : ℕ) (r : Reject) (due : Due) → DemoGives stages (Err r) → due ≡ refused_due words (unfiled r)
-    → Ends (Then (DemoAsks words stages) (DemoDecides words stages)) due
+    → Ends (Then (DemoAsks words stages) (DemoDecides stages)) due
 demo_refused words stages r due gives is = record { chain = refused due (r, gives, is) refl; later = later_refused words (unfiled r) due is }
 
 -- THE GATES OF THE QUESTION
@@ -125,14 +124,14 @@ module _ (one : (texts : List Text) (top : Text) (clock : Option Text) → HasOn
 -- THE LOADS
 
 module _ (words : List (List ℕ)) (files : List DeskFile) (purpose : Purpose) (input : Input) (due : Due) where
-  pub loaded_runs : (texts : Texts) → texts_of files None input ≡ Ok texts → Ends (Then (Asks words input texts) (QuestionDecides words input purpose)) due
+  pub loaded_runs : (texts : Texts) → texts_of files None input ≡ Ok texts → Ends (Then (Asks words input texts) (QuestionDecides input purpose)) due
       → InputRuns words files (unread_of due.answer) purpose input (Err due)
   loaded_runs texts gives ends =
       let P : Option ℕ → Type 0 = λ failed. texts_of files failed input ≡ Ok texts in
       goes_on texts (subst P (sym ends.later.unread) gives) ends.chain
 
   -- where loads are sure, as where none has failed
-  pub loaded_sure : (texts : Texts) → texts_of files None input ≡ Ok texts → Ends (Then (Asks words input texts) (QuestionDecides words input purpose)) due
+  pub loaded_sure : (texts : Texts) → texts_of files None input ≡ Ok texts → Ends (Then (Asks words input texts) (QuestionDecides input purpose)) due
       → InputRuns words files None purpose input (Err due)
   loaded_sure texts gives ends = goes_on texts gives ends.chain
 
@@ -198,29 +197,29 @@ module _ (words : List (List ℕ)) (files : List DeskFile) (purpose : Purpose) (
 abbrev pub EndsReady : Result Ready NoMemory → (Result (Unit {0}) Due → Type 0) → Type 0
 EndsReady result Chain = IfOk result (λ ready. Ends Chain (plain_due ready))
 
-pub question_check : (words : List (List ℕ)) (input : Input) (q : read.Question) (what : Purpose) (result : Result Ready NoMemory) → what ≡ purpose.Check
-    → IfOk result (λ ready. (r : Question) → Stands r q → CheckGives words input.top r (plain_due ready))
-    → IfOk result (λ ready. (r : Question) → Stands r q → Ends (QuestionDecides words input what r) (plain_due ready))
-question_check words input q what (Ok ready) is h = λ r stands.
-    subst (λ (p : Purpose). Ends (QuestionDecides words input p r) (plain_due ready)) (sym is) (check_ends words input r (plain_due ready) (h r stands))
-question_check words input q what (Err e) is h = tt
+pub question_check : (input : Input) (q : read.Question) (what : Purpose) (result : Result Ready NoMemory) → what ≡ purpose.Check
+    → IfOk result (λ ready. (r : Question) → Stands r q → CheckGives input.top r (plain_due ready))
+    → IfOk result (λ ready. (r : Question) → Stands r q → Ends (QuestionDecides input what r) (plain_due ready))
+question_check input q what (Ok ready) is h = λ r stands.
+    subst (λ (p : Purpose). Ends (QuestionDecides input p r) (plain_due ready)) (sym is) (check_ends input r (plain_due ready) (h r stands))
+question_check input q what (Err e) is h = tt
 
-pub question_known : (words : List (List ℕ)) (input : Input) (q : read.Question) (what : Purpose) (result : Result Ready NoMemory) → what ≡ purpose.Known
+pub question_known : (input : Input) (q : read.Question) (what : Purpose) (result : Result Ready NoMemory) → what ≡ purpose.Known
     → IfOk result (λ ready. (r : Question) → Stands r q → plain_due ready ≡ shown_due r)
-    → IfOk result (λ ready. (r : Question) → Stands r q → Ends (QuestionDecides words input what r) (plain_due ready))
-question_known words input q what (Ok ready) is h = λ r stands.
-    subst (λ (p : Purpose). Ends (QuestionDecides words input p r) (plain_due ready)) (sym is) (known_ends words input r (plain_due ready) (h r stands))
-question_known words input q what (Err e) is h = tt
+    → IfOk result (λ ready. (r : Question) → Stands r q → Ends (QuestionDecides input what r) (plain_due ready))
+question_known input q what (Ok ready) is h = λ r stands.
+    subst (λ (p : Purpose). Ends (QuestionDecides input p r) (plain_due ready)) (sym is) (known_ends input r (plain_due ready) (h r stands))
+question_known input q what (Err e) is h = tt
 
 module _ (words : List (List ℕ)) (input : Input) (texts : Texts) (purpose : Purpose) (at : Places) (same : at ≡ places_of input) where
   abbrev Chain : Result (Unit {0}) Due → Type 0
-  Chain = Then (Asks words input texts) (QuestionDecides words input purpose)
+  Chain = Then (Asks words input texts) (QuestionDecides input purpose)
 
   abbrev Gives : Places → Result Question Reject → Type 0
   Gives places = QuestionGives places input.top texts.script texts.sources
 
   pub texts_ok : (q : read.Question) (result : Result Ready NoMemory) → IsRead at input.top texts.script texts.sources q
-      → IfOk result (λ ready. (r : Question) → Stands r q → Ends (QuestionDecides words input purpose r) (plain_due ready)) → EndsReady result Chain
+      → IfOk result (λ ready. (r : Question) → Stands r q → Ends (QuestionDecides input purpose r) (plain_due ready)) → EndsReady result Chain
   texts_ok q (Ok ready) r h =
       texts_end words input texts purpose r.question (plain_due ready) (subst (λ (z : Places). Gives z (Ok r.question)) same r.asked) (h r.question r.stands)
   texts_ok q (Err e) r h = tt
@@ -249,16 +248,16 @@ module _ (words : List (List ℕ)) (input : Input) (texts : Texts) (purpose : Pu
 
 module _ (words : List (List ℕ)) (stages : ℕ) where
   abbrev DemoChain : Result (Unit {0}) Due → Type 0
-  DemoChain = Then (DemoAsks words stages) (DemoDecides words stages)
+  DemoChain = Then (DemoAsks words stages) (DemoDecides stages)
 
   abbrev Reads : List Text → read.Question → Type 0
   Reads sources q = IsRead no_places (codes "demo") demo_script sources q
 
   pub demo_ok : (sources : List Text) (q : read.Question) (result : Result Ready NoMemory) → sources ≡ demo_source stages ∷ [] → Reads sources q
-      → IfOk result (λ ready. (r : Question) → Stands r q → DemoReplies words stages r (plain_due ready)) → EndsReady result DemoChain
+      → IfOk result (λ ready. (r : Question) → Stands r q → DemoReplies stages r (plain_due ready)) → EndsReady result DemoChain
   demo_ok sources q (Ok ready) is r h =
       demo_end words stages r.question (plain_due ready) (subst (λ (z : List Text). QuestionGives no_places (codes "demo") demo_script z (Ok r.question)) is r.asked)
-      (demo_ends words stages r.question (plain_due ready) (h r.question r.stands))
+      (demo_ends stages r.question (plain_due ready) (h r.question r.stands))
   demo_ok sources q (Err e) is r h = tt
 
   pub demo_err : (sources : List Text) (stop : rejecting.Stop) (result : Result Ready NoMemory) → sources ≡ demo_source stages ∷ []
@@ -305,12 +304,12 @@ module _ (words : List (List ℕ)) (told : Option (List DeskFile)) (purpose : Pu
   runs_told (Some files) P Q h f = f files h
 
   pub input_ok : (texts : Texts) (result : Result Ready NoMemory) → IfSome told (λ files. texts_of files None input ≡ Ok texts)
-      → EndsReady result (Then (Asks words input texts) (QuestionDecides words input purpose)) → IfOk result (λ ready. Runs (plain_due ready))
+      → EndsReady result (Then (Asks words input texts) (QuestionDecides input purpose)) → IfOk result (λ ready. Runs (plain_due ready))
   input_ok texts (Ok ready) gives ends = runs_told told _ _ gives (λ files is. loaded_runs words files purpose input (plain_due ready) texts is ends)
   input_ok texts (Err e) gives ends = tt
 
   pub input_sure_ok : (texts : Texts) (result : Result Ready NoMemory) → IfSome told (λ files. texts_of files None input ≡ Ok texts)
-      → EndsReady result (Then (Asks words input texts) (QuestionDecides words input purpose)) → (S : Type 0) → IfOk result (λ ready. S → Sure (plain_due ready))
+      → EndsReady result (Then (Asks words input texts) (QuestionDecides input purpose)) → (S : Type 0) → IfOk result (λ ready. S → Sure (plain_due ready))
   input_sure_ok texts (Ok ready) gives ends S = λ sure. runs_told told _ _ gives (λ files is. loaded_sure words files purpose input (plain_due ready) texts is ends)
   input_sure_ok texts (Err e) gives ends S = tt
 
@@ -321,20 +320,20 @@ module _ (words : List (List ℕ)) (told : Option (List DeskFile)) (purpose : Pu
   input_sure_err stop S gives (Err e) stops = tt
 
   pub input_gates_ok : (texts : Texts) (result : Result Ready NoMemory) → IfSome told (λ files. texts_of files None input ≡ Ok texts)
-      → EndsReady result (Then (Asks words input texts) (QuestionDecides words input purpose))
+      → EndsReady result (Then (Asks words input texts) (QuestionDecides input purpose))
       → IfOk result (λ ready. (r : Question) → Asks words input texts (Ok r) → HasOrderedGates (netlist r)) → IfOk result (λ ready. Gates (plain_due ready))
   input_gates_ok texts (Ok ready) gives ends each =
       runs_told told _ _ gives (λ files is. λ q asks. loaded_gates words files purpose input (plain_due ready) texts q is ends.later each asks)
   input_gates_ok texts (Err e) gives ends each = tt
 
   pub input_failed_ok : (texts : Texts) (before now : ℕ) (result : Result Ready NoMemory)
-      → EndsReady result (Then (Asks words input texts) (QuestionDecides words input purpose))
+      → EndsReady result (Then (Asks words input texts) (QuestionDecides input purpose))
       → IfOk result (λ ready. IfSome (unread_of (plain_due ready).answer) (λ place. Contains (places input) place × Rose before now))
   input_failed_ok texts before now (Ok ready) ends = later_failed words [] purpose input (plain_due ready) before now ends.later
   input_failed_ok texts before now (Err e) ends = tt
 
   pub input_some_ok : (texts : Texts) (result : Result Ready NoMemory)
-      → EndsReady result (Then (Asks words input texts) (QuestionDecides words input purpose)) → IfOk result (λ ready. (plain_due ready).answer ≢ answer.NoCommand)
+      → EndsReady result (Then (Asks words input texts) (QuestionDecides input purpose)) → IfOk result (λ ready. (plain_due ready).answer ≢ answer.NoCommand)
   input_some_ok texts (Ok ready) ends = ends.later.some
   input_some_ok texts (Err e) ends = tt
 

@@ -8,7 +8,6 @@ use Rattle.rst_accepted.specs.Elaborated.{IsElaborated}
 use Rattle.rst_script.specs.Scripts.{script_of}
 use Rattle.rst_script.specs.Fitting.{fit_of}
 use Rattle.rst_question.specs.Questions.{Question, input_ports}
-use Rattle.rst_replies.specs.Replies.{Knows}
 use Rattle.rst_due.specs.Due.{LoadsGive, Asks, DemoAsks}
 
 -- the loads of a command's files give texts, and these ask the question
@@ -32,13 +31,12 @@ is_decided (Check input cert) = true
 is_decided (Known input) = false
 is_decided (Demo stages) = true
 
--- the words spell a command that decides a question, which they ask, and three-valued simulation knows every register behind its pattern
+-- the words spell a command that decides a question, and ask this one
 pub record IsDecided (words : List (List ℕ)) (files : List DeskFile) (failed : Option ℕ) (q : Question) : Type 0 where
   pub command : Command
   pub spelled : command_of words ≡ Some command
   pub decides : is_decided command ≡ true
   pub asks : CommandAsks words files failed command q
-  pub knows : Knows q
 
 -- the words spell `known`, and ask this question
 pub record IsShown (words : List (List ℕ)) (files : List DeskFile) (failed : Option ℕ) (q : Question) : Type 0 where

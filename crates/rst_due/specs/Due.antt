@@ -1,6 +1,6 @@
 -- The due answer: what words, files and the place of a failed load call for, before anything is written. It is a chain of steps: each stops
--- with the answer that is due, or goes on with what it gives. So at most one answer is due.
-use Rattle.std.specs.Prelude.{◌≡◌, ◌≢◌, ◌≤◌, ℕ, List, [], ◌∷◌, length, codes, Option, Some, None, Result, Ok, Err}
+-- with the answer that is due, or goes on with what it gives. So at most one answer is due, but for the evidence of a verdict.
+use Rattle.std.specs.Prelude.{◌≡◌, ◌≢◌, ◌≤◌, ◌⊎◌, ℕ, List, [], ◌∷◌, length, codes, Option, Some, None, Result, Ok, Err}
 use Rattle.std.specs.List.{All}
 use Rattle.rst_outside.specs.declared.desk.DeskFile.{DeskFile}
 use Rattle.rst_reject.specs.declared.code.Code.TheVariants as code
@@ -18,7 +18,8 @@ use Rattle.rst_question.specs.declared.question.Places.{Places}
 use Rattle.rst_question.specs.Questions.{Question, QuestionGives}
 use Rattle.rst_due.specs.declared.input.Purpose.{Purpose}
 use Rattle.rst_due.specs.declared.input.Purpose.TheVariants as purpose
-use Rattle.rst_replies.specs.Replies.{DecisionGives, signed_due, demo_due, shown_due}
+use Rattle.rst_verdict.specs.declared.verdict.Verdict.{Verdict}
+use Rattle.rst_replies.specs.Replies.{IsVerdictOf, check_due, demo_due, shown_due}
 
 -- A step gives a value, or stops with what is due.
 abbrev pub Step : Type 0 → Type 1
@@ -80,26 +81,41 @@ DemoAsks words stages (Err due) = (r : Reject) × DemoGives stages (Err r) × (d
 
 -- WHAT IS DUE OF A COMMAND
 
--- behind a question that is read to be decided: the decision, and the verdict; behind one that is read for what is known: the rows
-abbrev pub QuestionDecides : List (List ℕ) → Input → Purpose → Question → Step (Unit {0})
-QuestionDecides words input purpose.Check q = Then (DecisionGives words q) (λ known. Stops (signed_due input.top q))
-QuestionDecides words input purpose.Known q = Stops (shown_due q)
+-- the decision gives a verdict that may be answered of the question; it never stops
+abbrev pub DecisionGives : Question → Step Verdict
+DecisionGives q (Ok verdict) = IsVerdictOf q verdict
+DecisionGives q (Err due) = ⊥
 
-abbrev pub DemoDecides : List (List ℕ) → ℕ → Question → Step (Unit {0})
-DemoDecides words stages q = Then (DecisionGives words q) (λ known. Stops (demo_due stages q))
+-- behind a question that is read to be decided: its verdict; behind one that is read for what is known: the rows
+abbrev pub QuestionDecides : Input → Purpose → Question → Step (Unit {0})
+QuestionDecides input purpose.Check q = Then (DecisionGives q) (λ verdict. Stops (check_due input.top q verdict))
+QuestionDecides input purpose.Known q = Stops (shown_due q)
+
+abbrev pub DemoDecides : ℕ → Question → Step (Unit {0})
+DemoDecides stages q = Then (DecisionGives q) (λ verdict. Stops (demo_due stages q verdict))
 
 abbrev pub InputRuns : List (List ℕ) → List DeskFile → Option ℕ → Purpose → Input → Step (Unit {0})
 InputRuns words files failed purpose input =
-    Then (LoadsGive words files failed input) (λ texts. Then (Asks words input texts) (QuestionDecides words input purpose))
+    Then (LoadsGive words files failed input) (λ texts. Then (Asks words input texts) (QuestionDecides input purpose))
 
 abbrev pub CommandRuns : List (List ℕ) → List DeskFile → Option ℕ → Command → Step (Unit {0})
 CommandRuns words files failed (Check input cert) = InputRuns words files failed purpose.Check input
 CommandRuns words files failed (Known input) = InputRuns words files failed purpose.Known input
-CommandRuns words files failed (Demo stages) = Then (DemoAsks words stages) (DemoDecides words stages)
+CommandRuns words files failed (Demo stages) = Then (DemoAsks words stages) (DemoDecides stages)
 
 -- What is due.
 abbrev pub IsDue : List (List ℕ) → List DeskFile → Option ℕ → Due → Type 0
 IsDue words files failed due = Then (CommandGives words) (CommandRuns words files failed) (Err due)
+
+-- what is due of the question of a command
+abbrev pub CommandDecides : Command → Question → Step (Unit {0})
+CommandDecides (Check input cert) q = QuestionDecides input purpose.Check q
+CommandDecides (Known input) q = QuestionDecides input purpose.Known q
+CommandDecides (Demo stages) q = DemoDecides stages q
+
+-- two due answers are one, but for the evidence of a verdict: then both are verdicts
+abbrev pub AreOne : Due → Due → Type 0
+AreOne a b = (a ≡ b) ⊎ (((v : Verdict) × (a.answer ≡ answer.Decided v)) × ((v : Verdict) × (b.answer ≡ answer.Decided v)))
 
 -- WORDS OF THE CONTRACTS
 

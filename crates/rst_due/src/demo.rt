@@ -67,7 +67,7 @@ fn source_of(alloc: Global, stages: u8) -> Result<Bytes, NoMemory>
 /// What is due in `demo N`.
 pub(crate) fn demo_due(alloc: Global, words: &[String], stages: u8) -> Result<Ready, NoMemory>
     requires { stages ≤ 60 }
-    ensures ends { IfOk result (λ ready. Ends (Then (DemoAsks (map string_bytes words.now) stages) (DemoDecides (map string_bytes words.now) stages)) (plain_due ready)) }
+    ensures ends { IfOk result (λ ready. Ends (Then (DemoAsks (map string_bytes words.now) stages) (DemoDecides stages)) (plain_due ready)) }
     ensures fits { IfOk result CertFits }
     ensures gates { IfOk result (λ ready. (q : Question_) → DemoAsks (map string_bytes words.now) stages (Ok q) → HasOrderedGates (netlist q)) }
 {
@@ -80,7 +80,7 @@ pub(crate) fn demo_due(alloc: Global, words: &[String], stages: u8) -> Result<Re
         sources: 0,
     };
     match read_question(alloc, places, b"demo", demo_script(), sources.as_slice()) {
-        Ok(question) => reply_demo(alloc, words, stages, &question),
+        Ok(question) => reply_demo(alloc, stages, &question),
         Err(stop) => demo_stopped(alloc, words, stop),
     }
 }

@@ -46,19 +46,18 @@ fn places_of(input: &Input<'_>) -> Places
 // What is due of a question.
 fn question_due(
     alloc: Global,
-    words: &[String],
     purpose: Purpose,
     input: &Input<'_>,
     question: &Question,
 ) -> Result<Ready, NoMemory>
     requires { IsSound question.now }
     ensures ends { IfOk result (λ ready. (q : Question_) → Stands q question.now
-        → Ends (QuestionDecides (map string_bytes words.now) (plain_input input.now) purpose q) (plain_due ready)) }
+        → Ends (QuestionDecides (plain_input input.now) purpose q) (plain_due ready)) }
     ensures fits { IfOk result CertFits }
     ensures gates { IfOk result (λ ready. HasOrderedGates (plain_net question.now.net)) }
 {
     match purpose {
-        Purpose::Check => reply_check(alloc, words, input.top, question),
+        Purpose::Check => reply_check(alloc, input.top, question),
         Purpose::Known => reply_known(alloc, question),
     }
 }
@@ -75,7 +74,7 @@ fn texts_due(
     requires sources { All (λ text. IsShort text.items) texts.now.sources.items }
     requires count { length texts.now.sources.items ≡ length input.now.files.texts.now }
     ensures ends { IfOk result (λ ready. Ends (Then (Asks (map string_bytes words.now) (plain_input input.now) (plain_texts texts.now))
-        (QuestionDecides (map string_bytes words.now) (plain_input input.now) purpose)) (plain_due ready)) }
+        (QuestionDecides (plain_input input.now) purpose)) (plain_due ready)) }
     ensures fits { IfOk result CertFits }
     ensures gates { IfOk result (λ ready. (q : Question_) → Asks (map string_bytes words.now) (plain_input input.now) (plain_texts texts.now) (Ok q)
         → HasOrderedGates (netlist q)) }
@@ -89,7 +88,7 @@ fn texts_due(
         texts.script.as_slice(),
         texts.sources.as_slice(),
     ) {
-        Ok(question) => question_due(alloc, words, purpose, input, &question),
+        Ok(question) => question_due(alloc, purpose, input, &question),
         Err(stop) => question_stopped(alloc, words, stop),
     }
 }

@@ -9,7 +9,7 @@ use Rattle.rst_due.proofs.demo.demo_due.Goals as goal
 
 pub reply_demo-requires : goal.reply_demo-requires
 reply_demo-requires c =
-    sound c.netlists_are_orderly.ensures.fits c.netlists_are_orderly.ensures.widths no_places (codes "demo") c.demo_script.result.now (texts_of c.as_slice.result.now) c.in-Ok.question
+    sound c.netlists_are_orderly.ensures.orderly c.netlists_are_orderly.ensures.fits c.netlists_are_orderly.ensures.widths no_places (codes "demo") c.demo_script.result.now (texts_of c.as_slice.result.now) c.in-Ok.question
     c.in-Ok.ensures.question
 
 pub returns-in-Ok-clause-ends : goal.returns-in-Ok-clause-ends

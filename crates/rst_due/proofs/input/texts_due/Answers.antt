@@ -13,7 +13,7 @@ use Rattle.rst_due.proofs.input.texts_due.Goals as goal
 
 pub question_due-requires : goal.question_due-requires
 question_due-requires c =
-    sound c.netlists_are_orderly.ensures.fits c.netlists_are_orderly.ensures.widths c.places_of.result c.as_bytes.result.now c.as_slice.result.now
+    sound c.netlists_are_orderly.ensures.orderly c.netlists_are_orderly.ensures.fits c.netlists_are_orderly.ensures.widths c.places_of.result c.as_bytes.result.now c.as_slice.result.now
     (texts_of c.as_slice-2.result.now) c.in-Ok.question c.in-Ok.ensures.question
 
 pub returns-in-Ok-clause-ends : goal.returns-in-Ok-clause-ends
