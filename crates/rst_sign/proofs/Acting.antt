@@ -17,6 +17,7 @@ use Rattle.rst_answer.specs.declared.answer.Outcome.{Outcome}
 use Rattle.rst_answer.specs.Answers.{Due, outcome_of, no_memory, unread_of, usage_due, usage_line, Carries}
 use Rattle.rst_due.specs.Due.{CommandRuns, IsDue}
 use Rattle.rst_due.specs.Asked.{loaded}
+use Rattle.rst_sign.proofs.Statuses.{verdict_status}
 use Rattle.rst_sign.specs.Run.{Outside, FitsIn, FitsUnder, HasRoom, Writes, Runs, Answers, IsRun, IsLoaded, HasGates, saved_under, name_in, cert_name}
 
 -- an outcome that carries an answer isn't that of want of memory
@@ -25,7 +26,7 @@ no_memory_not answer.NoCommand is = let e : Usage ≡ NoMemory = is in cc
 no_memory_not (answer.Unread place) is = let e : ReadFault ≡ NoMemory = is in cc
 no_memory_not (answer.Refused reject) is = let e : Rejected ≡ NoMemory = is in cc
 no_memory_not answer.Shown is = let e : Shown ≡ NoMemory = is in cc
-no_memory_not (answer.Decided verdict) is = let e : Signed ≡ NoMemory = is in cc
+no_memory_not (answer.Decided verdict) is = absurd ((verdict_status verdict).no_memory is)
 
 carried_not : (a : Answer) (outcome : Outcome) → Carries a outcome → outcome.status ≢ NoMemory
 carried_not a outcome (inl is) status = no_memory_not a (sym (ap (λ (o : Outcome). o.status) is) ∙ status)

@@ -1,7 +1,7 @@
 pub mod Prefix
 pub mod Saving
 pub mod Rooms
-pub mod Codes
+pub mod Statuses
 pub mod Endings
 pub mod Reading
 pub mod Acting

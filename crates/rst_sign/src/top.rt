@@ -1,23 +1,24 @@
 // The top call.
-ghost use Rattle.std.specs.Prelude.{◌≡◌, ◌≢◌, ◌⊎◌, ◌↔◌, ℕ, List, None, Some, IfSome, IfNone, IsNone, IsSome, IsTrue, IfOk, IfErr, map, string_bytes, false};
+ghost use Rattle.std.specs.Prelude.{◌≡◌, ◌≢◌, ◌⊎◌, ◌↔◌, List, None, Some, IfSome, IsNone, IsSome, IsTrue, IfOk, IfErr, map, string_bytes, false};
 ghost use Rattle.std.specs.Io.KnownBytes.{Appends};
-ghost use Rattle.rst_outside.specs.Causes.{Rose, AppendsPrefix};
-ghost use Rattle.rst_outside.specs.Files.{IsHeldUnder, ChangesOnly};
+ghost use Rattle.rst_outside.specs.Causes.{Rose};
+ghost use Rattle.rst_outside.specs.Files.{ChangesOnly};
 ghost use Rattle.rst_value.specs.declared.tern.Tern.{Tern};
+ghost use Rattle.rst_verdict.specs.declared.verdict.Verdict.{Verdict};
 ghost use Rattle.rst_verdict.specs.declared.verdict.Verdict.TheVariants.{SignedKnown};
 ghost use Rattle.rst_command.specs.Commands.{command_of, plain_command};
 ghost use Rattle.rst_reject.specs.declared.reject.Reject.{Reject as Reject_};
 ghost use Rattle.rst_answer.specs.declared.answer.Answer.TheVariants.{NoCommand};
-ghost use Rattle.rst_answer.specs.Answers.{Due, usage_line, no_memory, Carries};
+ghost use Rattle.rst_answer.specs.Answers.{Due, usage_line, no_memory, status_of, Carries};
 ghost use Rattle.rst_question.specs.Questions.{Question};
-ghost use Rattle.rst_replies.specs.Replies.{not_known, shown_due};
+ghost use Rattle.rst_replies.specs.Replies.{Knows, IsVerdictOf, shown_due};
 ghost use Rattle.rst_due.specs.Due.{IsDue};
 ghost use Rattle.rst_due.specs.Asked.{IsDecided, IsShown};
-ghost use Rattle.rst_sign.specs.Run.{Outside, HasRoom, IsLoaded, IsRun, Runs, cert_name, saved_under};
-ghost use Rattle.rst_sign.specs.Promises.{IsRefused, IsUnknown, IsUnread, Resets, is_check};
+ghost use Rattle.rst_sign.specs.Run.{Outside, Writes, IsLoaded, IsRun, Runs, cert_name, saved_under};
+ghost use Rattle.rst_sign.specs.Promises.{IsSigned, IsRefutedBy, IsUnknown, IsRefused, IsUnread, is_check};
 
 use crate::deliver::{deliver, put_answer};
-use crate::laws::known_patterns_reset;
+use crate::laws::verdicts_hold;
 use rst_answer::{Answer, Outcome, Status, usage};
 use rst_command::{Command, read_command};
 use rst_due::due;
@@ -121,44 +122,87 @@ fn act<K: Desk, S: Sink>(alloc: Global, words: &Vec<String>, desk: &mut K, sink:
 /// nothing.
 ///
 /// Status by status:
-/// - `Signed`: three-valued simulation of the design knows every register behind the sequence, with X at each free bit. Any two power-up
-///   states then give equal outputs at every later cycle, whatever inputs follow, and however the free bits are filled.
+/// - `Signed`: any two power-up states of the design give equal outputs at every cycle behind the sequence, whatever inputs follow, and
+///   however the free bits are filled.
+/// - `Refuted`: behind the sequence, with its free bits filled as the verdict says, two power-up states give different outputs.
+/// - `Unknown`: the script's budget was spent before the sequence was signed or refuted.
 /// - `Shown`: the rows are put.
 /// - `Usage`: the words spell no command. It takes no memory.
 /// - `ReadFault`: a load failed; `unread` is the place of its word.
-/// - `Rejected`: `reject` says why: a file is longer than 1,048,576 bytes, a text or the design is refused, the script doesn't fit the
-///   design's inputs, or a register stays unknown.
+/// - `Rejected`: `reject` says why: a file is longer than 1,048,576 bytes, a text or the design is refused, or the script doesn't fit the
+///   design's inputs.
 /// - `WriteFault`: the certificate could not be saved, or the text could not be put whole. The outcome keeps what was due.
 /// - `NoMemory`: memory ran out before anything was written.
+///
+/// `NonResettable` and `Alignable` are statuses of a search for a sequence, and come of none of these commands.
 pub fn run<K: Desk, S: Sink>(
     alloc: Global,
     words: &Vec<String>,
     desk: &mut K,
     sink: &mut S,
 ) -> Outcome
-    // DUE. Unless memory runs out, an answer is due of the words, the files and the place of the failed load, and the outcome carries it,
-    // or a fault of writing in its place.
-    ensures due { result.status ≢ Status.NoMemory → IfSome (K.files desk.old) (λ files.
-        (due : Due) × IsDue (map string_bytes words.now.items) files result.unread due × Carries due.answer result) }
+    // DUE. Unless memory runs out, an answer is due of the words, the files and the place of the failed load, and the run writes it: the
+    // outcome carries it, or a fault of writing in its place; its text is put, its certificate saved under CERT, and no other file changes.
+    ensures due { let old : Outside = record {
+      files = K.files desk.old;
+      load_faults = K.load_faults desk.old;
+      save_faults = K.save_faults desk.old;
+      sure_loads = K.sure_loads desk.old;
+      save_room = K.sure_room desk.old;
+      taken = S.taken sink.old;
+      put_faults = S.faults sink.old;
+      put_room = S.sure_room sink.old;
+    } in
+        let new : Outside = record {
+          files = K.files desk.new;
+          load_faults = K.load_faults desk.new;
+          save_faults = K.save_faults desk.new;
+          sure_loads = K.sure_loads desk.new;
+          save_room = K.sure_room desk.new;
+          taken = S.taken sink.new;
+          put_faults = S.faults sink.new;
+          put_room = S.sure_room sink.new;
+        } in
+        result.status ≢ Status.NoMemory → IfSome (K.files desk.old) (λ files. (due : Due)
+        × IsDue (map string_bytes words.now.items) files result.unread due × Writes (cert_name (map string_bytes words.now.items)) due old new result) }
 
-    // SIGNED. Only where the words spell `check` or `demo`, and their loaded bytes ask a question behind whose pattern three-valued
-    // simulation knows every register. The verdict keeps the question's pattern, and it is an essential reset sequence of the one machine
-    // that the flat design is: any two power-up states behave the same behind every filling of it.
+    // SIGNED. Only where the words spell `check` or `demo`, and their loaded bytes ask a question whose pattern the verdict keeps. That is an
+    // essential reset sequence of the one machine that the flat design is: any two power-up states behave the same behind every filling.
     ensures signed { result.status ≡ Status.Signed → IfSome (K.files desk.old) (λ files. (q : Question)
-        × IsDecided (map string_bytes words.now.items) files None q × (result.verdict ≡ Some (SignedKnown q.pattern)) × Resets q.flat q.pattern) }
+        × IsDecided (map string_bytes words.now.items) files None q × IsSigned result q) }
 
-    // The verdict comes exactly of such a question, with its pattern, also where a write failed.
-    ensures verdict { result.status ≢ Status.NoMemory → IfSome (K.files desk.old) (λ files. (pattern : List (List Tern))
+    // REFUTED. Only of such a question; behind a filling of its pattern two power-up states of that machine give different outputs.
+    ensures refuted { result.status ≡ Status.Refuted → IfSome (K.files desk.old) (λ files. (q : Question)
+        × IsDecided (map string_bytes words.now.items) files None q × IsRefutedBy result q) }
+
+    // UNKNOWN. Only of such a question behind whose pattern a register stays unknown in three values, and with all of the budget spent: the
+    // verdict keeps exactly as many entries as the script allows, and they are work.
+    ensures unknown { result.status ≡ Status.Unknown → IfSome (K.files desk.old) (λ files. (q : Question)
+        × IsDecided (map string_bytes words.now.items) files None q × IsUnknown result q) }
+
+    // VERDICT. A verdict that is kept, also where a write failed, is one that may be answered of a question that is decided.
+    ensures verdict { result.status ≢ Status.NoMemory → IfSome (K.files desk.old) (λ files. (verdict : Verdict) → result.verdict ≡ Some verdict
+        → (q : Question) × IsDecided (map string_bytes words.now.items) files result.unread q × IsVerdictOf q verdict) }
+
+    // KNOWN. The verdict is SignedKnown exactly where three-valued simulation knows every register behind the pattern.
+    ensures known { result.status ≢ Status.NoMemory → IfSome (K.files desk.old) (λ files. (pattern : List (List Tern))
         → (result.verdict ≡ Some (SignedKnown pattern)) ↔ ((q : Question)
-        × IsDecided (map string_bytes words.now.items) files result.unread q × (pattern ≡ q.pattern))) }
+        × IsDecided (map string_bytes words.now.items) files result.unread q × Knows q × (pattern ≡ q.pattern))) }
 
-    // ALWAYS SIGNED. Where no count of faults rises, such a question is signed, unless memory runs out.
+    // ALWAYS SIGNED. Where no count of faults rises, a question behind whose pattern three-valued simulation knows every register is signed,
+    // and every question that is decided has its verdict, unless memory runs out.
     ensures always_signed { IfSome (K.files desk.old) (λ files. (q : Question)
-        → IsDecided (map string_bytes words.now.items) files None q
+        → IsDecided (map string_bytes words.now.items) files None q → Knows q
         → (Rose (K.load_faults desk.old) (K.load_faults desk.new) → ⊥)
         → (Rose (K.save_faults desk.old) (K.save_faults desk.new) → ⊥)
         → (Rose (S.faults sink.old) (S.faults sink.new) → ⊥)
         → (result.status ≡ Status.Signed) ⊎ (result.status ≡ Status.NoMemory)) }
+    ensures always_decided { IfSome (K.files desk.old) (λ files. (q : Question)
+        → IsDecided (map string_bytes words.now.items) files None q
+        → (Rose (K.load_faults desk.old) (K.load_faults desk.new) → ⊥)
+        → (Rose (K.save_faults desk.old) (K.save_faults desk.new) → ⊥)
+        → (Rose (S.faults sink.old) (S.faults sink.new) → ⊥)
+        → ((verdict : Verdict) × IsVerdictOf q verdict × (result.verdict ≡ Some verdict) × (result.status ≡ status_of verdict)) ⊎ (result.status ≡ Status.NoMemory)) }
 
     // SHOWN. Only of a question that `known` asks, and the rows of its registers are put; and, where no count of faults rises, always of
     // such a question, unless memory runs out.
@@ -189,38 +233,17 @@ pub fn run<K: Desk, S: Sink>(
     ensures sure_loads { IsTrue (K.sure_loads desk.old) → result.status ≢ Status.NoMemory → IfSome (K.files desk.old) (λ files.
         (due : Due) × IsDue (map string_bytes words.now.items) files None due × Carries due.answer result) }
 
-    // REJECTED. The refusal, with its code, file, name and number, is exactly the one that the steps of the words come to first. `NotKnown`
-    // comes exactly of a question behind whose pattern a register is unknown.
+    // REJECTED. The refusal, with its code, file, name and number, is exactly the one that the steps of the words come to first.
     ensures rejected { result.status ≡ Status.Rejected → IsSome result.reject }
     ensures refused { result.status ≢ Status.NoMemory → IfSome (K.files desk.old) (λ files. (reject : Reject_)
         → (result.reject ≡ Some reject) ↔ IsRefused (map string_bytes words.now.items) files result.unread reject) }
-    ensures not_known { result.status ≢ Status.NoMemory → IfSome (K.files desk.old) (λ files.
-        (result.reject ≡ Some not_known) ↔ ((q : Question) × IsUnknown (map string_bytes words.now.items) files result.unread q)) }
 
     // KEPT. Verdict, refusal and unread file are kept with their own status and with a fault of writing alone.
-    ensures kept_verdict { IsSome result.verdict → (result.status ≡ Status.Signed) ⊎ (result.status ≡ Status.WriteFault) }
+    ensures kept_verdict { IfSome result.verdict (λ verdict. (result.status ≡ status_of verdict) ⊎ (result.status ≡ Status.WriteFault)) }
     ensures kept_reject { IsSome result.reject → (result.status ≡ Status.Rejected) ⊎ (result.status ≡ Status.WriteFault) }
     ensures kept_unread { IsSome result.unread → (result.status ≡ Status.ReadFault) ⊎ (result.status ≡ Status.WriteFault) }
 
-    // BYTES. The sink's bytes grow by the due text, by a prefix of it where a write failed, and by nothing where memory ran out.
-    ensures text { result.status ≢ Status.WriteFault → result.status ≢ Status.NoMemory → IfSome (K.files desk.old) (λ files. (due : Due)
-        → IsDue (map string_bytes words.now.items) files result.unread due
-        → Appends (S.taken sink.old) (S.taken sink.new) due.text) }
-    ensures text_prefix { result.status ≡ Status.WriteFault → IfSome (K.files desk.old) (λ files. (due : Due)
-        → IsDue (map string_bytes words.now.items) files result.unread due
-        → AppendsPrefix (S.taken sink.old) (S.taken sink.new) due.text) }
-    ensures nothing_put { result.status ≡ Status.NoMemory → S.taken sink.new ≡ S.taken sink.old }
-
-    // FILES. Where a certificate is due it stands under CERT, also where only the put failed; where the save failed, nothing is put. No
-    // other file changes, and none where no verdict is kept, where the command isn't `check`, or where memory ran out.
-    ensures certificate { result.status ≢ Status.WriteFault → result.status ≢ Status.NoMemory → IfSome (K.files desk.old) (λ files. (due : Due)
-        → IsDue (map string_bytes words.now.items) files result.unread due
-        → IfSome due.cert (λ cert. IfSome (K.files desk.new) (IsHeldUnder (cert_name (map string_bytes words.now.items)) cert))) }
-    ensures failed_write { result.status ≡ Status.WriteFault → IfSome (K.files desk.old) (λ files. (due : Due)
-        → IsDue (map string_bytes words.now.items) files result.unread due
-        → IfSome due.cert (λ cert.
-        (IfSome (K.files desk.new) (IsHeldUnder (cert_name (map string_bytes words.now.items)) cert) × Rose (S.faults sink.old) (S.faults sink.new))
-        ⊎ ((S.taken sink.new ≡ S.taken sink.old) × Rose (K.save_faults desk.old) (K.save_faults desk.new)))) }
+    // FILES. No file but CERT changes, and none where no verdict is kept or where the command isn't `check`.
     ensures other_files { ChangesOnly (cert_name (map string_bytes words.now.items)) (K.files desk.old) (K.files desk.new) }
     ensures no_certificate { IfSome (K.files desk.old) (λ files. IsNone result.verdict → K.files desk.new ≡ Some files) }
     ensures only_check_saves { IfSome (K.files desk.old) (λ files. is_check (command_of (map string_bytes words.now.items)) ≡ false → K.files desk.new ≡ Some files) }
@@ -229,17 +252,13 @@ pub fn run<K: Desk, S: Sink>(
     ensures write_fault { result.status ≡ Status.WriteFault
         → Rose (K.save_faults desk.old) (K.save_faults desk.new) ⊎ Rose (S.faults sink.old) (S.faults sink.new) }
 
-    // Within the sure room of the desk, under CERT, and of the sink no write fails.
-    ensures sure_room { IfSome (K.files desk.old) (λ files. (due : Due) → IsDue (map string_bytes words.now.items) files result.unread due
-        → HasRoom (cert_name (map string_bytes words.now.items)) due (K.sure_room desk.old) (S.sure_room sink.old)
-        → result.status ≢ Status.WriteFault) }
-
-    // NO MEMORY. Only of a command; the outcome keeps nothing, and no file changes.
+    // NO MEMORY. Only of a command; the outcome keeps nothing, nothing is put, and no file changes.
     ensures no_memory { result.status ≡ Status.NoMemory → result ≡ no_memory }
     ensures memory_command { result.status ≡ Status.NoMemory → IsSome (command_of (map string_bytes words.now.items)) }
+    ensures nothing_put { result.status ≡ Status.NoMemory → S.taken sink.new ≡ S.taken sink.old }
     ensures nothing_saved { result.status ≡ Status.NoMemory → K.files desk.new ≡ K.files desk.old }
 {
     one_due();
-    known_patterns_reset();
+    verdicts_hold();
     act(alloc, words, desk, sink)
 }

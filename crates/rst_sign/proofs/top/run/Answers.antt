@@ -1,31 +1,15 @@
 -- Each promise of the top call.
 use Rattle.std.specs.Prelude.{map, string_bytes}
-use Rattle.rst_sign.proofs.Promises.{if_told, not_no_memory, other_files, due_told, sure_told, room_kept, writes, signed_promise, verdict_exactly, always_signed, shown_promise, always_shown, usage_promise, usage_only, usage_text, read_fault_has, rejected_has, unread_promise, refused_exactly, not_known_exactly, kept_verdict, kept_reject, kept_unread, no_certificate, only_check, write_fault, no_memory_keeps, memory_is}
+use Rattle.rst_sign.proofs.Promises.{if_told, other_files, due_told, sure_told, signed_promise, refuted_promise, unknown_promise, verdict_promise, known_exactly, always_signed, always_decided, shown_promise, always_shown, usage_promise, usage_only, usage_text, read_fault_has, rejected_has, unread_promise, refused_exactly, kept_verdict, kept_reject, kept_unread, no_certificate, only_check, write_fault, no_memory_keeps, memory_is}
 use Rattle.rst_sign.proofs.top.run.Goals as goal
 
 pub returns-clause-due : goal.returns-clause-due
 returns-clause-due g c =
     λ memory. if_told (g.K.Desk.files c.args.desk.now) _ (λ files told. due_told (map string_bytes c.args.words.now.items) _ _ c.act.result c.act.ensures files told memory)
 
-pub returns-clause-signed : goal.returns-clause-signed
-returns-clause-signed g c =
-    λ status. if_told (g.K.Desk.files c.args.desk.now) _ (λ files told. signed_promise (map string_bytes c.args.words.now.items) _ _ c.act.result c.act.ensures c.known_patterns_reset.ensures files told status)
-
-pub returns-clause-verdict : goal.returns-clause-verdict
-returns-clause-verdict g c =
-    λ memory. if_told (g.K.Desk.files c.args.desk.now) _ (λ files told. verdict_exactly (map string_bytes c.args.words.now.items) _ _ c.act.result c.act.ensures c.one_due.ensures files told memory)
-
-pub returns-clause-always_signed : goal.returns-clause-always_signed
-returns-clause-always_signed g c =
-    if_told (g.K.Desk.files c.args.desk.now) _ (λ files told. always_signed (map string_bytes c.args.words.now.items) _ _ c.act.result c.act.ensures c.one_due.ensures files told)
-
 pub returns-clause-shown : goal.returns-clause-shown
 returns-clause-shown g c =
     λ status. if_told (g.K.Desk.files c.args.desk.now) _ (λ files told. shown_promise (map string_bytes c.args.words.now.items) _ _ c.act.result c.act.ensures files told status)
-
-pub returns-clause-always_shown : goal.returns-clause-always_shown
-returns-clause-always_shown g c =
-    if_told (g.K.Desk.files c.args.desk.now) _ (λ files told. always_shown (map string_bytes c.args.words.now.items) _ _ c.act.result c.act.ensures c.one_due.ensures files told)
 
 pub returns-clause-usage : goal.returns-clause-usage
 returns-clause-usage g c =
@@ -57,11 +41,7 @@ returns-clause-rejected g c =
 
 pub returns-clause-refused : goal.returns-clause-refused
 returns-clause-refused g c =
-    λ memory. if_told (g.K.Desk.files c.args.desk.now) _ (λ files told. refused_exactly (map string_bytes c.args.words.now.items) _ _ c.act.result c.act.ensures c.one_due.ensures files told memory)
-
-pub returns-clause-not_known : goal.returns-clause-not_known
-returns-clause-not_known g c =
-    λ memory. if_told (g.K.Desk.files c.args.desk.now) _ (λ files told. not_known_exactly (map string_bytes c.args.words.now.items) _ _ c.act.result c.act.ensures c.one_due.ensures files told memory)
+    λ memory. if_told (g.K.Desk.files c.args.desk.now) _ (λ files told. refused_exactly (map string_bytes c.args.words.now.items) _ _ c.act.result c.act.ensures c.one_due.ensures.one files told memory)
 
 pub returns-clause-kept_verdict : goal.returns-clause-kept_verdict
 returns-clause-kept_verdict g c =
@@ -75,25 +55,9 @@ pub returns-clause-kept_unread : goal.returns-clause-kept_unread
 returns-clause-kept_unread g c =
     kept_unread (map string_bytes c.args.words.now.items) _ _ c.act.result c.act.ensures
 
-pub returns-clause-text : goal.returns-clause-text
-returns-clause-text g c =
-    λ fault memory. if_told (g.K.Desk.files c.args.desk.now) _ (λ files told. λ due is. (writes (map string_bytes c.args.words.now.items) _ _ c.act.result c.act.ensures c.one_due.ensures files told memory due is).text fault)
-
-pub returns-clause-text_prefix : goal.returns-clause-text_prefix
-returns-clause-text_prefix g c =
-    λ status. if_told (g.K.Desk.files c.args.desk.now) _ (λ files told. λ due is. (writes (map string_bytes c.args.words.now.items) _ _ c.act.result c.act.ensures c.one_due.ensures files told (not_no_memory c.act.result status) due is).prefix)
-
 pub returns-clause-nothing_put : goal.returns-clause-nothing_put
 returns-clause-nothing_put g c =
     λ status. (c.act.ensures.nothing status).1.taken
-
-pub returns-clause-certificate : goal.returns-clause-certificate
-returns-clause-certificate g c =
-    λ fault memory. if_told (g.K.Desk.files c.args.desk.now) _ (λ files told. λ due is. (writes (map string_bytes c.args.words.now.items) _ _ c.act.result c.act.ensures c.one_due.ensures files told memory due is).saved fault)
-
-pub returns-clause-failed_write : goal.returns-clause-failed_write
-returns-clause-failed_write g c =
-    λ status. if_told (g.K.Desk.files c.args.desk.now) _ (λ files told. λ due is. (writes (map string_bytes c.args.words.now.items) _ _ c.act.result c.act.ensures c.one_due.ensures files told (not_no_memory c.act.result status) due is).put_failed status)
 
 pub returns-clause-other_files : goal.returns-clause-other_files
 returns-clause-other_files g c =
@@ -127,6 +91,34 @@ pub returns-clause-sure_loads : goal.returns-clause-sure_loads
 returns-clause-sure_loads g c =
     λ sure memory. if_told (g.K.Desk.files c.args.desk.now) _ (λ files told. sure_told (map string_bytes c.args.words.now.items) _ _ c.act.result c.act.ensures files told sure memory)
 
-pub returns-clause-sure_room : goal.returns-clause-sure_room
-returns-clause-sure_room g c =
-    if_told (g.K.Desk.files c.args.desk.now) _ (λ files told. room_kept (map string_bytes c.args.words.now.items) _ _ c.act.result c.act.ensures c.one_due.ensures files told)
+pub returns-clause-signed : goal.returns-clause-signed
+returns-clause-signed g c =
+    λ status. if_told (g.K.Desk.files c.args.desk.now) _ (λ files told. signed_promise (map string_bytes c.args.words.now.items) _ _ c.act.result c.act.ensures c.verdicts_hold.ensures.signed files told status)
+
+pub returns-clause-refuted : goal.returns-clause-refuted
+returns-clause-refuted g c =
+    λ status. if_told (g.K.Desk.files c.args.desk.now) _ (λ files told. refuted_promise (map string_bytes c.args.words.now.items) _ _ c.act.result c.act.ensures c.verdicts_hold.ensures.refuted files told status)
+
+pub returns-clause-unknown : goal.returns-clause-unknown
+returns-clause-unknown g c =
+    λ status. if_told (g.K.Desk.files c.args.desk.now) _ (λ files told. unknown_promise (map string_bytes c.args.words.now.items) _ _ c.act.result c.act.ensures files told status)
+
+pub returns-clause-verdict : goal.returns-clause-verdict
+returns-clause-verdict g c =
+    λ memory. if_told (g.K.Desk.files c.args.desk.now) _ (λ files told. verdict_promise (map string_bytes c.args.words.now.items) _ _ c.act.result c.act.ensures files told memory)
+
+pub returns-clause-known : goal.returns-clause-known
+returns-clause-known g c =
+    λ memory. if_told (g.K.Desk.files c.args.desk.now) _ (λ files told. known_exactly (map string_bytes c.args.words.now.items) _ _ c.act.result c.act.ensures c.one_due.ensures.asked files told memory)
+
+pub returns-clause-always_signed : goal.returns-clause-always_signed
+returns-clause-always_signed g c =
+    if_told (g.K.Desk.files c.args.desk.now) _ (λ files told. always_signed (map string_bytes c.args.words.now.items) _ _ c.act.result c.act.ensures c.one_due.ensures.asked files told)
+
+pub returns-clause-always_decided : goal.returns-clause-always_decided
+returns-clause-always_decided g c =
+    if_told (g.K.Desk.files c.args.desk.now) _ (λ files told. always_decided (map string_bytes c.args.words.now.items) _ _ c.act.result c.act.ensures c.one_due.ensures.asked files told)
+
+pub returns-clause-always_shown : goal.returns-clause-always_shown
+returns-clause-always_shown g c =
+    if_told (g.K.Desk.files c.args.desk.now) _ (λ files told. always_shown (map string_bytes c.args.words.now.items) _ _ c.act.result c.act.ensures c.one_due.ensures.asked files told)
