@@ -1,18 +1,16 @@
 // Three-valued simulation from power-up, and what it decides.
-ghost use Rattle.std.specs.Prelude.{◌≡◌, ◌+◌, ◌↔◌, IfOk, IsTrue, IsSome, IfSome, Some, length, replicate, slice_get};
+ghost use Rattle.std.specs.Prelude.{◌≡◌, ◌+◌, ◌↔◌, IfOk, IsTrue, Some, length, replicate, slice_get};
 ghost use Rattle.std.specs.List.{AllByRecursion};
 ghost use Rattle.rst_value.specs.declared.tern.Tern.TheVariants.{Unknown};
 ghost use Rattle.rst_gate.specs.Patterns.{IsPattern};
 ghost use Rattle.rst_gate.specs.TernMachine.{IsKnown, KnowsPattern, pattern_after};
 ghost use Rattle.rst_gate.specs.GateMachines.{machine_of, terns_of};
 ghost use Rattle.rst_sim.specs.Trails.{pattern_trail};
-ghost use Rattle.rst_verdict.specs.declared.verdict.Verdict.TheVariants.{SignedKnown};
 
 use rst_gate::{Cube, Gates, Pattern};
 use rst_outside::NoMemory;
 use rst_sim::{TernTrace, tern_run_free};
 use rst_value::Tern;
-use rst_verdict::Verdict;
 use std::alloc::Global;
 
 // So many places that aren't known.
@@ -48,33 +46,14 @@ pub fn known_states(alloc: Global, gates: &Gates, pattern: &Pattern) -> Result<T
     tern_run_free(alloc, gates, &start, pattern)
 }
 
-// Whether no register is X behind the pattern.
-fn knows(alloc: Global, gates: &Gates, pattern: &Pattern) -> Result<bool, NoMemory>
+/// Whether no register is X behind the pattern, in three-valued simulation from power-up and with X at each free bit.
+///
+/// Each cube of the pattern has a place for each input. It is refused for want of memory alone.
+pub fn knows(alloc: Global, gates: &Gates, pattern: &Pattern) -> Result<bool, NoMemory>
     requires { IsPattern (machine_of gates.now) pattern.now }
     ensures { IfOk result (λ known. IsTrue known ↔ KnowsPattern (terns_of gates.now) pattern.now) }
 {
     let trace = known_states(alloc, gates, pattern)?;
     let last = pattern.len();
     Ok(all_known(trace.states[last].as_slice()))
-}
-
-/// The verdict on the pattern: `SignedKnown`, with the pattern, exactly where three-valued simulation knows every register behind it,
-/// with X at each free bit. Else none.
-///
-///
-/// Each cube of the pattern has a place for each input. It is refused for want of memory alone.
-pub fn decide_check(
-    alloc: Global,
-    gates: &Gates,
-    pattern: Pattern,
-) -> Result<Option<Verdict>, NoMemory>
-    requires { IsPattern (machine_of gates.now) pattern }
-    ensures known { IfOk result (λ verdict. IsSome verdict ↔ KnowsPattern (terns_of gates.now) pattern) }
-    ensures verdict { IfOk result (λ verdict. IfSome verdict (λ it. it ≡ SignedKnown pattern)) }
-{
-    if knows(alloc, gates, &pattern)? {
-        Ok(Some(Verdict::SignedKnown { seq: pattern }))
-    } else {
-        Ok(None)
-    }
 }

@@ -1,6 +1,6 @@
-//! Decides the pattern of a script for the gates of a design.
+//! What three-valued simulation from power-up knows of the gates of a design along a pattern.
 #![tactic(auto)]
 
 mod deciding;
 
-pub use deciding::{decide_check, known_states};
+pub use deciding::{known_states, knows};

@@ -15,10 +15,12 @@ use Rattle.rst_pose.specs.Works.{blocked_of}
 use Rattle.rst_pairinv.specs.Blocking.{AreBlocked}
 use Rattle.rst_pairinv.specs.Refining.{Refutes, IsExact, KeepsWork, front_with}
 use Rattle.rst_pairinv.proofs.Blocked.{are_hops}
+use Rattle.rst_landing.specs.Work.{IsLandWork}
 use Rattle.rst_landing.specs.Landings.{EndsInside, IsLanding, land_clauses, land_variables}
 use Rattle.rst_replay.specs.Refutations.{IsRefutedBy}
 use Rattle.rst_replay.proofs.Apart.{inside_aligns, landed_refutes}
-use Rattle.rst_relation.specs.Decisions.{one_design, AreMarkedBehind}
+use Rattle.rst_relation.specs.Decisions.{one_design, AreMarkedBehind, IsCheckWork}
+use Rattle.rst_relation.proofs.Working.{joined_works}
 use Rattle.rst_relation.specs.Deciding.{IsRefined}
 use Rattle.rst_relation.proofs.Marked.{are_right}
 
@@ -46,6 +48,16 @@ module _ (c : Circuit) (pattern : List (List Tern)) (budget : ℕ) (f : Front') 
   land_log log h =
       subst (λ (g : Front'). IsRefutation (land_variables (one_design c) g pattern) (land_clauses (one_design c) g pattern) log)
       (plain_front f refined.none_freed) h
+
+-- the work of refining and that of landing behind it, with the marked registers
+pub joined_work :
+    (c : Circuit) (pattern : List (List Tern)) (budget : ℕ) (f : Front') (equal : List Bool) (split : List (List ℤ)) (journal more all : List Entry) (left : ℕ)
+    → IsRefined c pattern budget f split journal → equal ≡ f.equal → IsLandWork (one_design c) f pattern left more → all ≡ journal ++ more
+    → AreMarkedBehind c pattern equal × IsCheckWork c pattern equal all
+joined_work c pattern budget f equal split journal more all left refined same work is = (
+  subst (λ (marks : List Bool). AreMarkedBehind c pattern marks) (sym same) refined.marked,
+  subst (λ (marks : List Bool). IsCheckWork c pattern marks all) (sym same) (joined_works c f pattern left journal more all refined.work refined.blocked work is),
+)
 
 -- what refining answers is a refined relation
 pub is_refined :

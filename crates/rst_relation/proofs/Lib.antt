@@ -1,3 +1,4 @@
 pub mod Marked
 pub mod Working
 pub mod Landed
+pub mod Verdicts

@@ -1,6 +1,7 @@
 -- The marked registers, and the front that has them.
 use Rattle.std.proofs.Common.{◌≡◌, ◌∙◌, ℕ, zero, suc, ◌<◌, ◌≤◌, ◌+◌, ℤ, Bool, true, false, List, [], ◌∷◌, length, map, take, refl, ap, sym, subst, arith}
-use Rattle.std.specs.Prelude.{slice_index_or, replicate}
+use Rattle.std.specs.Prelude.{slice_index_or, replicate, Result, Ok, Err, IfOk}
+use Rattle.rst_outside.specs.declared.names.NoMemory.{NoMemory}
 use Rattle.std.proofs.lemmas.List.{length-take-le}
 use Rattle.rst_value.specs.declared.tern.Tern.{Tern}
 use Rattle.rst_value.specs.declared.tern.Tern.TheVariants.{Zero, One, Unknown}
@@ -54,6 +55,19 @@ within_count (x ∷ xs) (y ∷ ys) w = omega (arith, within_count xs ys w.1)
 pub marked_count : (c : Circuit) (pattern : List (List Tern)) (equal : List Bool) → IsCircuit c → AreMarkedBehind c pattern equal → length equal ≡ c.states
 marked_count c pattern equal is marked =
     within_count equal (known_registers c pattern) marked.known ∙ length-map-is is_bit (known_behind (terns_of c) pattern) ∙ known_count c pattern is
+
+-- what closing the known registers answers are the marked ones
+pub marked_behind :
+    (c : Circuit) (pattern : List (List Tern)) (known : List Bool) (result : Result (List Bool) NoMemory) → known ≡ known_registers c pattern
+    → IfOk result (λ set. IsWithin set known) → IfOk result (λ set. IsClosedSet c set)
+    → IfOk result (λ set. (other : List Bool) → IsWithin other known → IsClosedSet c other → IsWithin other set)
+    → IfOk result (λ set. AreMarkedBehind c pattern set)
+marked_behind c pattern known (Ok set) is within closed largest = record {
+  known = subst (IsWithin set) is within;
+  closed = closed;
+  largest = λ other inside. largest other (subst (IsWithin other) (sym is) inside);
+}
+marked_behind c pattern known (Err e) is within closed largest = tt
 
 pub are_marked :
     (c : Circuit) (pattern : List (List Tern)) (equal : List Bool) → IsCircuit c → AreMarkedBehind c pattern equal → AreMarked (one_design c) equal

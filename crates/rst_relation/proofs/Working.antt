@@ -15,7 +15,7 @@ use Rattle.rst_pairinv.specs.Refining.{KeepsWork}
 use Rattle.rst_landing.specs.Work.{checking, HasNotLanded, IsLandWork}
 use Rattle.rst_relation.specs.Decisions.{one_design, IsCheckWork}
 
-no_work : (r : Search) → AreWork r []
+pub no_work : (r : Search) → AreWork r []
 no_work r = record {
   each = λ i d below. absurd (omega (arith, below));
   phases = λ i j d lt below. absurd (omega (arith, below));

@@ -1,5 +1,5 @@
 // The decision of a pattern: the relation is refined, then it is asked where the pattern lands.
-ghost use Rattle.std.specs.Prelude.{◌≡◌, ◌≤◌, length, IfOk};
+ghost use Rattle.std.specs.Prelude.{◌≡◌, ◌<◌, ◌≤◌, length, IfOk};
 ghost use Rattle.rst_gate.specs.GateMachines.{machine_of};
 ghost use Rattle.rst_gate.specs.Patterns.{IsPattern, PatternSigns};
 ghost use Rattle.rst_pose.specs.Posing.{IsSmall};
@@ -97,8 +97,8 @@ fn decide_landing(
 /// (`hops`), one log refutes that a related pair splits (`split`), and one that a pair of power-up
 /// states lies in a blocked cube behind a filling (`land`). Refuted has a filling of the pattern, two
 /// power-up states, and a word that tells them apart behind the filling (`refuted`), so the pattern
-/// doesn't sign (`unsigned`). Unknown has exactly `budget` entries (`unknown`). It is refused for want
-/// of memory alone.
+/// doesn't sign (`unsigned`). Unknown has exactly `budget` entries (`unknown`); a budget of 0 is Unknown
+/// (`spends`). It is refused for want of memory alone.
 pub fn decide(
     alloc: Global,
     gates: &Gates,
@@ -118,9 +118,14 @@ pub fn decide(
     ensures refuted { IfOk result (λ d. HasRefutation gates.now pattern.now d) }
     ensures unsigned { IfOk result (λ d. IsRefuted d → PatternSigns (machine_of gates.now) pattern.now → ⊥) }
     ensures unknown { IfOk result (λ d. IsUnknown d → length (journal_in d) ≡ budget) }
+    ensures spends { IfOk result (λ d. (IsUnknown d → ⊥) → 0 < budget) }
 {
     are_sides(gates);
     let equal = marked(alloc, gates, pattern)?;
+    if budget == 0 {
+        let journal = Journal::new(alloc);
+        return Ok(Decision::Unknown { equal, journal });
+    }
     let pair = Pair {
         left: gates,
         right: gates,
