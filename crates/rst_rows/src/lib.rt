@@ -12,4 +12,6 @@ mod known;
 #[cfg(test)]
 mod refused;
 #[cfg(test)]
+mod relations;
+#[cfg(test)]
 mod sources;

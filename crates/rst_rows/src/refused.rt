@@ -1,6 +1,6 @@
 // Rows of refusals, each with the place of the word of the file that it is about.
 use crate::bench::run_texts;
-use crate::sources::{ASYNCHRONOUS, LOADED, NO_CLOCK, RESET, SHIFT, TOGGLE, one};
+use crate::sources::{LOADED, NO_CLOCK, RESET, TOGGLE, one};
 use std::test::Fail;
 
 /// A line, a script, a source, and what is left.
@@ -115,7 +115,7 @@ const TOO_WIDE: &str = "module w(input clk, input rst, output co); reg [64:0] n;
 
 const TWO_SOURCES: &str = "reset-script 1\nclock clk\nstep no=1\n";
 
-const DESIGNS: [Row; 12] = [
+const DESIGNS: [Row; 9] = [
     ("check t s c t.v", RESET, "", "5\nrejected NoTop\n"),
     (
         "check t s c t.v t.v",
@@ -160,25 +160,6 @@ const DESIGNS: [Row; 12] = [
         TWO_SOURCES,
         TOGGLE,
         "5 file 2\nrejected BadName s 3\n",
-    ),
-    // Registers that three values don't know behind the sequence.
-    (
-        "check t s c t.v",
-        "reset-script 1\nclock clk\nstep rst=0\n",
-        TOGGLE,
-        "5\nrejected NotKnown\n",
-    ),
-    (
-        "check h s c t.v",
-        "reset-script 1\nclock clk\nstep d=0\n",
-        SHIFT,
-        "5\nrejected NotKnown\n",
-    ),
-    (
-        "check r s c t.v",
-        "reset-script 2\nclock clk\nstep rn=* d=1\n",
-        ASYNCHRONOUS,
-        "5\nrejected NotKnown\n",
     ),
 ];
 
