@@ -115,11 +115,11 @@ fn demonstrated(
 }
 
 // A copy of a pattern.
-fn copied(alloc: Global, pattern: &Pattern) -> Result<Pattern, NoMemory>
-    ensures { IfOk result (λ own. own ≡ pattern.now) }
+fn copied(alloc: Global, cubes: &[Cube]) -> Result<Pattern, NoMemory>
+    ensures { IfOk result (λ own. own ≡ cubes.now) }
 {
     let mut own = Pattern::new(alloc);
-    for cube in pattern.as_slice() {
+    for cube in cubes {
         own.push(Cube::from_slice(alloc, cube.as_slice())?)?;
     }
     Ok(own)
@@ -141,7 +141,7 @@ fn decided(
     ensures gates { IfOk result (λ verdict. HasOrderedGates (plain_net net.now)) }
 {
     let gates = lower(alloc, net)?;
-    let own = copied(alloc, pattern)?;
+    let own = copied(alloc, pattern.as_slice())?;
     decide_check(alloc, &gates, own, budget)
 }
 

@@ -17,9 +17,12 @@ const GUARDED: &str = "module p(input clk, input rst, input en, input [3:0] d, o
     always @(posedge clk) begin if (rst) v <= 1'b0; else v <= en; q <= d; end \
     assign o = v ? q : 4'd0; endmodule\n";
 
+const HELD: &str = "module r(input clk, input rn, output reg q); \
+    always @(posedge clk or negedge rn) if (!rn) q <= 1'b0; else q <= q; endmodule\n";
+
 const STILL: &str = "reset-script 1\nclock clk\n";
 
-const SIGNED: [Row; 4] = [
+const SIGNED: [Row; 5] = [
     (
         "check g s c t.v",
         STILL,
@@ -43,6 +46,12 @@ const SIGNED: [Row; 4] = [
         "reset-script 2\nclock clk\nstep rst=1 d=*\n",
         GUARDED,
         "0 decided\nSIGNED relation\ndesign p registers 5 inputs 6 outputs 4\nsequence 1\ncycle 0 rst=1 en=0 d=----\n",
+    ),
+    (
+        "check r s c t.v",
+        "reset-script 2\nclock clk\nstep rn=* d=1\n",
+        ASYNCHRONOUS,
+        "0 decided\nSIGNED relation\ndesign r registers 1 inputs 2 outputs 1\nsequence 1\ncycle 0 rn=- d=1\n",
     ),
 ];
 
@@ -73,9 +82,9 @@ const REFUTED: [Row; 5] = [
     ),
     (
         "check r s c t.v",
-        "reset-script 2\nclock clk\nstep rn=* d=1\n",
-        ASYNCHRONOUS,
-        "10 decided\nREFUTED\ndesign r registers 1 inputs 2 outputs 1\nsequence 1\ncycle 0 rn=",
+        STILL,
+        HELD,
+        "10 decided\nREFUTED\ndesign r registers 1 inputs 1 outputs 1\nsequence 0\na q=",
     ),
 ];
 

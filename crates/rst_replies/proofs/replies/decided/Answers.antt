@@ -17,16 +17,16 @@ decide_check-requires-clause-small c =
 
 pub decide_check-requires-clause-pattern : goal.decide_check-requires-clause-pattern
 decide_check-requires-clause-pattern c =
-    subst (IsPattern (machine_of c.in_ok-gates.gates)) (sym c.in_ok-own.ensures)
+    subst (IsPattern (machine_of c.in_ok-gates.gates)) (sym (c.in_ok-own.ensures ∙ c.as_slice.ensures))
     (pattern_fits (plain_net c.args.net.now) c.in_ok-gates.gates c.args.pattern.now c.in_ok-gates.ensures.gates c.requires.places)
 
 pub decide_check-requires-clause-cycles : goal.decide_check-requires-clause-cycles
-decide_check-requires-clause-cycles c = subst (λ (n : ℕ). n ≤ 128) (sym (ap (λ (p : List (List Tern)). length p) c.in_ok-own.ensures)) c.requires.cycles
+decide_check-requires-clause-cycles c = subst (λ (n : ℕ). n ≤ 128) (sym (ap (λ (p : List (List Tern)). length p) (c.in_ok-own.ensures ∙ c.as_slice.ensures))) c.requires.cycles
 
 pub returns-clause-verdict : goal.returns-clause-verdict
 returns-clause-verdict c =
     let e = c.gates.view_is in
     let same : (let x : Circuit = record { inputs = c.gates.inside.inputs; states = c.gates.inside.states; gates = c.gates.inside.gates.items; outs = c.gates.inside.outs.items; nexts = c.gates.inside.nexts.items } in x) ≡ c.in_ok-gates.gates = cc in
     let circuit : IsCircuit c.in_ok-gates.gates = subst IsCircuit same c.gates.invariant in
-    decides_ok (plain_net c.args.net.now) c.in_ok-gates.gates c.args.pattern.now c.in_ok-own.own c.args.budget c.decide_check.result c.in_ok-own.ensures c.in_ok-gates.ensures.gates circuit
+    decides_ok (plain_net c.args.net.now) c.in_ok-gates.gates c.args.pattern.now c.in_ok-own.own c.args.budget c.decide_check.result (c.in_ok-own.ensures ∙ c.as_slice.ensures) c.in_ok-gates.ensures.gates circuit
     c.requires.places c.decide_check.ensures

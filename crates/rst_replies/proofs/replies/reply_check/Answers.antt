@@ -7,9 +7,11 @@ use Rattle.rst_replies.proofs.Dues.{check_ok, version_fits}
 use Rattle.rst_replies.proofs.replies.reply_check.Goals as goal
 
 pub checked-requires : goal.checked-requires
-checked-requires c = λ one.
-    version_fits (KnowsPattern (design_terns (plain_net c.args.question.now.net)) c.args.question.now.pattern) (gates_of (plain_net c.args.question.now.net)) c.args.question.now.pattern
-    c.args.question.now.script.budget c.in_ok-verdict.verdict c.in_ok-verdict.ensures.verdict (c.requires.version one)
+checked-requires c = record {
+  version = λ one.
+      version_fits (KnowsPattern (design_terns (plain_net c.args.question.now.net)) c.args.question.now.pattern) (gates_of (plain_net c.args.question.now.net)) c.args.question.now.pattern
+      c.args.question.now.script.budget c.in_ok-verdict.verdict c.in_ok-verdict.ensures.verdict (c.requires.version one);
+}
 
 pub returns-clause-due : goal.returns-clause-due
 returns-clause-due c =
