@@ -212,7 +212,23 @@ take_all (suc n) (x ∷ xs) h = ap (λ (r : List Bool). x ∷ r) (take_all n xs 
 pub rest_all : (n : ℕ) (xs : List Bool) → take (length xs - n) (drop n xs) ≡ drop n xs
 rest_all n xs = take_all (length xs - n) (drop n xs) (omega (arith, length-drop n xs))
 
--- the state that shares the marked registers, by other numbers
-pub same_state :
-    (n i : ℕ) (marks ms s bits bs : List Bool) → n ≡ i → marks ≡ ms → bits ≡ bs → sharing_state n marks s bits ≡ sharing_state i ms s bs
-same_state n i marks ms s bits bs e f g = cc
+-- the parts of a solution, as they are read
+pub read_case :
+    (p : Sides) (it : Refining) (bits : List Bool) (l r : Circuit) (marks t : List Bool) → l ≡ p.left → r ≡ p.right → marks ≡ it.front.equal
+    → AreSides p → AreMarked p it.front.equal → IsRefining p it
+    → IsSolution (posed p it.front Split).free (clauses_posed p it.front) bits
+    → t ≡ sharing_state r.states marks (take (l.inputs + l.states - l.inputs) (drop l.inputs bits))
+    (take (length bits - (l.inputs + l.states)) (drop (l.inputs + l.states) bits))
+    → IsCasePart p it.front (take l.inputs bits) (take (l.inputs + l.states - l.inputs) (drop l.inputs bits)) t
+read_case p it bits l r marks t left right is_marks sides marked at solution is =
+    let inputs : l.inputs ≡ p.left.inputs = ap (λ (g : Circuit). g.inputs) left in
+    let states : l.states ≡ p.left.states = ap (λ (g : Circuit). g.states) left in
+    let others : r.states ≡ p.right.states = ap (λ (g : Circuit). g.states) right in
+    let both : l.inputs + l.states ≡ p.left.inputs + p.left.states = omega (arith, inputs, states) in
+    let s = take (l.inputs + l.states - l.inputs) (drop l.inputs bits) in
+    let behind = rest_all (l.inputs + l.states) bits ∙ ap (λ (k : ℕ). drop k bits) both in
+    let same = ap (λ (n : ℕ). sharing_state n marks s (take (length bits - (l.inputs + l.states)) (drop (l.inputs + l.states) bits))) others
+    ∙ ap (λ (m : List Bool). sharing_state p.right.states m s (take (length bits - (l.inputs + l.states)) (drop (l.inputs + l.states) bits))) is_marks
+    ∙ ap (λ (bs : List Bool). sharing_state p.right.states it.front.equal s bs) behind in
+    case_of_solution p it.front bits (take l.inputs bits) s t sides marked (is_front p it.front at.count at.none_freed at.hops) solution
+    (ap (λ (k : ℕ). take k bits) inputs) (same_part bits l.inputs l.states p.left.inputs p.left.states inputs states) (is ∙ same)

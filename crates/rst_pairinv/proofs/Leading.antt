@@ -1,5 +1,5 @@
 -- Where the input of a splitting pair leads it, and what its hop is when it is made wide.
-use Rattle.std.proofs.Common.{◌≡◌, ◌∙◌, ℕ, ◌<◌, ◌≤◌, ◌+◌, ◌⊎◌, inl, inr, Bool, true, false, List, [], ◌∷◌, ◌++◌, length, map, refl, ap, sym, subst, arith, length-append}
+use Rattle.std.proofs.Common.{◌≡◌, ◌∙◌, ℕ, ◌<◌, ◌≤◌, ◌+◌, ◌⊎◌, inl, inr, Bool, true, false, not, List, [], ◌∷◌, ◌++◌, length, map, refl, ap, sym, subst, arith, length-append}
 use Rattle.std.specs.Prelude.{Option, None, Some, IfSome, IfNone}
 use Rattle.std.specs.Option.{ForSome}
 use Rattle.std.specs.List.{AllZip}
@@ -17,6 +17,14 @@ use Rattle.rst_pair.proofs.Passing.{one-pair, passing-right}
 use Rattle.rst_pairinv.specs.Blocking.{IsBlockedHop}
 use Rattle.rst_pairinv.specs.Turns.{Leaves}
 use Rattle.rst_pairinv.proofs.Blocked.{length_cubes, cube_wide}
+
+pub not_true : (b : Bool) → not b ≡ true → b ≡ true → ⊥
+not_true true e f = let g : false ≡ true = e in absurd (cc)
+not_true false e f = let g : false ≡ true = f in absurd (cc)
+
+pub not_false : (b : Bool) → not b ≡ false → b ≡ true
+not_false true e = refl
+not_false false e = let g : true ≡ false = e in absurd (cc)
 
 -- by the first blocked cube that holds the successors, where the outputs are equal
 pub leads_by :

@@ -1,5 +1,5 @@
 -- What is known of the hops and the work so far, while the relation is refined.
-use Rattle.std.specs.Prelude.{◌≡◌, ℕ, ◌<◌, ℤ, Bool, false, List, [], ◌∷◌, ◌++◌, length, take, slice_index_or, ◌⊎◌}
+use Rattle.std.specs.Prelude.{◌≡◌, ℕ, ◌<◌, ◌+◌, ℤ, Bool, true, false, List, [], ◌∷◌, ◌++◌, length, take, slice_index_or, ◌⊎◌}
 use Rattle.rst_value.specs.declared.tern.Tern.{Tern}
 use Rattle.rst_clause.specs.Results.{largest}
 use Rattle.rst_solve.specs.declared.solver.Answer.{Answer}
@@ -16,12 +16,20 @@ use Rattle.rst_pair.specs.Fronts.{Front'}
 use Rattle.rst_pose.specs.Posed.{posed}
 use Rattle.rst_pose.specs.Works.{Search, blocked_of, freed_of, paths_of, phase, IsTrueEntry}
 use Rattle.rst_pairinv.specs.declared.block.Refining.{Refining}
+use Rattle.rst_pairinv.specs.declared.hops.Cycle.{Cycle}
 use Rattle.rst_pairinv.specs.Blocking.{AreBlocked}
 
 -- the outputs differ, or the successors lie in a blocked cube
 abbrev pub Leaves : Sides → List Hop → List Bool → List Bool → List Bool → Type 0
 Leaves p blocked input s t = ((left_machine p).out s input ≡ (right_machine p).out t input → ⊥)
     ⊎ LiesInSome (cubes_of blocked) ((left_machine p).step s input) ((right_machine p).step t input)
+
+-- whether the outputs of the pair differ under the input, and its successors
+pub record IsCycle (p : Sides) (input s t : List Bool) (it : Cycle) : Type 0 where
+  pub apart : it.differ ≡ true → (left_machine p).out s input ≡ (right_machine p).out t input → ⊥
+  pub alike : it.differ ≡ false → (left_machine p).out s input ≡ (right_machine p).out t input
+  pub successors : it.successors ≡ (left_machine p).step s input ++ (right_machine p).step t input
+  pub count : length it.successors ≡ p.left.states + p.right.states
 
 -- a search that reads no more than the pair and the marked registers
 abbrev pub plain_search : Sides → List Bool → Search
