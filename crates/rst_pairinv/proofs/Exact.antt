@@ -29,7 +29,7 @@ use Rattle.rst_query_laws.specs.Conditions.{AreShared, IsAbout}
 use Rattle.rst_query_laws.proofs.Solutions.{solutions_are}
 use Rattle.rst_pairinv.specs.Blocking.{AreBlocked}
 use Rattle.rst_pairinv.specs.Refining.{AreMarked, Refutes, IsExact, KeepsWork, front_with}
-use Rattle.rst_pairinv.specs.Turns.{Leaves, clauses_posed, AreSplitting, IsRefining}
+use Rattle.rst_pairinv.specs.Turns.{IsCasePart, clauses_posed, AreSplitting, IsRefining}
 use Rattle.rst_pairinv.proofs.Bits.{open_bits, length_open, length_sharing, sharing_open, read_parts}
 use Rattle.rst_pairinv.proofs.Blocked.{is_front, same_outside}
 
@@ -138,12 +138,6 @@ exact p f log sides marked no_freed blocked refutes s t pair =
     )
 
 -- the parts of a solution
-pub record IsCasePart (p : Sides) (f : Front') (x s t : List Bool) : Type 0 where
-  pub width : length x ≡ p.left.inputs
-  pub states : IsPair p s t
-  pub related : IsRelated f s t
-  pub leaves : Leaves p f.blocked x s t
-
 case_part :
     (p : Sides) (f : Front') (bits : List Bool) → AreMarked p f.equal → IsQueryCase p f Split bits
     → (let left = take p.left.states (drop p.left.inputs bits) in

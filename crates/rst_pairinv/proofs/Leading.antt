@@ -43,6 +43,15 @@ leads_by p blocked input s t (Some k) same leaves found none = (
   found.1,
 )
 
+-- by a blocked cube that holds the successors
+pub leaves_by :
+    (p : Sides) (blocked : List Hop) (input s t successors : List Bool) (next : Option ℕ) (k : ℕ) → next ≡ Some k
+    → successors ≡ (left_machine p).step s input ++ (right_machine p).step t input
+    → IfSome next (λ k. (k < length blocked) × AllZip StandsFor (cube_at blocked k) successors) → Leaves p blocked input s t
+leaves_by p blocked input s t successors None k is same found = absurd (let e : None ≡ Some k = is in cc)
+leaves_by p blocked input s t successors (Some j) k is same found =
+    inr (j, omega (arith, found.0, length_cubes blocked), subst (λ (both : List Bool). AllZip StandsFor (cube_at blocked j) both) same found.1)
+
 -- each cube that is aimed at has a place for each register
 aim_is_wide :
     (p : Sides) (blocked : List Hop) (next : Option ℕ) → AreHops p blocked → ForSome next (λ k. k < length blocked)

@@ -1,24 +1,32 @@
-// A cheap finder of pairs that split: states drawn at random, tried by simulation before a question is
-// posed. What it draws promises nothing; a pair that it finds is blocked as that of a solution is.
+// A cheap finder of pairs that split: pairs are guessed and tried by simulation before a question is
+// posed. A guess promises nothing; one that is a case is blocked as that of a solution is.
 
-ghost use Rattle.std.specs.Prelude.{◌≡◌, ◌+◌, ◌<◌, ◌≤◌, ◌^◌, length, IfOk, OnOk, IfSome, IfNone};
+ghost use Rattle.std.specs.Prelude.{◌≡◌, ◌+◌, ◌<◌, ◌≤◌, ◌^◌, true, length, IfOk, OnOk, IfSome, IfNone};
 ghost use Rattle.rst_pair.specs.declared.query.Query.TheVariants.{Split};
 ghost use Rattle.rst_pose.specs.Posing.{IsSmall};
-ghost use Rattle.rst_pair.specs.Sides.{IsPair};
 ghost use Rattle.rst_pairinv.specs.Refining.{AreMarked, Refutes};
-ghost use Rattle.rst_pairinv.specs.Turns.{IsRefining, IsFresh};
+ghost use Rattle.rst_pairinv.specs.Turns.{IsRefining, IsFresh, IsCasePart, GoesOn};
 
 use crate::block::{Refining, block};
 use crate::hops::leaves;
-use crate::states::{joined, sharing_state};
+use crate::states::{bit_at, joined};
 use crate::turn::turn;
 use rst_clause::Log;
+use rst_gate::Bits;
 use rst_outside::NoMemory;
-use rst_pair::{Pair, in_relation};
+use rst_pair::{Entry, Journal, Pair, in_relation};
 use std::alloc::Global;
 
 // How many pairs are drawn before a question.
-const DRAWS: u32 = 256;
+const DRAWS: u32 = 512;
+
+// An input and a pair of states, which may split under it.
+#[derive(Drop)]
+pub(crate) struct Guess {
+    input: Bits,
+    left: Bits,
+    right: Bits,
+}
 
 // A linear congruential source of bits.
 #[derive(Drop)]
@@ -28,7 +36,7 @@ pub(crate) struct Source {
 }
 
 impl Source {
-    fn new() -> Source {
+    pub(crate) fn new() -> Source {
         Source { now: 1 }
     }
 
@@ -36,150 +44,229 @@ impl Source {
         let product = u64::from(self.now) * 1_103_515_245 + 12_345;
         let next = (product % 2_147_483_648) as u32;
         self.now = next;
-        next / 65_536 % 2 == 1
+        next >= 1_073_741_824
     }
 
-    // So many bits, where sparse each of them 1 in a quarter of the draws.
-    fn bits(&mut self, alloc: Global, count: u32, sparse: bool) -> Result<Vec<bool>, NoMemory>
-        ensures { IfOk result (λ bits. length bits.items ≡ count) }
-    {
-        let mut bits = Vec::new(alloc);
+    // One of so many places.
+    fn place(&mut self, count: u32) -> u32 {
+        let _first = self.bit();
+        if count == 0 {
+            0
+        } else {
+            self.now / 256 % count
+        }
+    }
+
+    // Seldom where they are few, and else in half of the draws.
+    fn flips(&mut self, few: bool) -> bool {
+        let first = self.bit();
+        let second = self.bit();
+        let third = self.bit();
+        first && (!few || second && third)
+    }
+
+    fn bits(&mut self, alloc: Global, count: u32, few: bool) -> Result<Bits, NoMemory> {
+        let mut bits = Bits::new(alloc);
         for _ in 0..count {
             let first = self.bit();
             let second = self.bit();
-            bits.push(first && (second || !sparse))?;
+            bits.push(first && (!few || second))?;
         }
         Ok(bits)
     }
 
-    // Bits of which about one in eight differs from these; behind their end they are drawn.
-    fn near(&mut self, alloc: Global, bits: &[bool], count: u32) -> Result<Vec<bool>, NoMemory>
-        ensures { IfOk result (λ near. length near.items ≡ count) }
-    {
-        let mut near = Vec::new(alloc);
+    // A state with the bits of this one at marked places. Others differ at one place or two, or at
+    // some of all.
+    fn near(
+        &mut self,
+        alloc: Global,
+        bits: &[bool],
+        marks: &[bool],
+        count: u32,
+    ) -> Result<Bits, NoMemory> {
+        let single = self.bit();
+        let few = self.bit();
+        let first = self.place(count);
+        let second = self.place(count);
+        let mut near = Bits::new(alloc);
         for i in 0..count {
+            let drawn = self.flips(few);
+            let chosen = i == first || !few && i == second;
+            let flip = if single { chosen } else { drawn };
             let place = i as usize;
-            let first = self.bit();
-            let second = self.bit();
-            let third = self.bit();
-            let flip = first && second && third;
-            let bit = if place < bits.len() {
-                bits[place]
-            } else {
-                first
-            };
-            near.push(bit != flip)?;
+            let free = !bit_at(marks, place);
+            near.push(bit_at(bits, place) != (flip && free))?;
         }
         Ok(near)
     }
-}
 
-// Blocks the pair where it is related and the input leads it out of the relation.
-fn try_pair(
-    alloc: Global,
-    pair: &Pair,
-    so_far: &mut Refining,
-    input: &[bool],
-    left: &[bool],
-    right: &[bool],
-) -> Result<(), NoMemory>
-    requires at { IsRefining pair.now so_far.old }
-    requires fresh { IsFresh so_far.old.journal }
-    requires marked { AreMarked pair.now so_far.old.front.equal }
-    requires few { length so_far.old.journal < 100000 }
-    requires input { length input.now ≡ pair.now.left.inputs }
-    requires states { IsPair pair.now left.now right.now }
-    ensures at { OnOk result (IsRefining pair.now so_far.new) }
-    ensures fresh { OnOk result (IsFresh so_far.new.journal) }
-    ensures equal { OnOk result (so_far.new.front.equal ≡ so_far.old.front.equal) }
-    ensures least { OnOk result (length so_far.old.journal ≤ length so_far.new.journal) }
-    ensures most { OnOk result (length so_far.new.journal ≤ length so_far.old.journal + 1) }
-{
-    let both = joined(alloc, left, right)?;
-    let front = &so_far.front;
-    let related = in_relation(front, &both);
-    let out = leaves(alloc, pair, front.blocked.as_slice(), input, left, right)?;
-    if related && out {
-        block(alloc, pair, so_far, input, left, right)?;
+    fn guess(&mut self, alloc: Global, pair: &Pair, marks: &[bool]) -> Result<Guess, NoMemory> {
+        let left_gates = pair.left;
+        let right_gates = pair.right;
+        let sparse = self.bit();
+        let input = self.bits(alloc, left_gates.inputs, sparse)?;
+        let left = self.bits(alloc, left_gates.states, false)?;
+        let right = self.near(alloc, left.as_slice(), marks, right_gates.states)?;
+        Ok(Guess { input, left, right })
     }
-    Ok(())
 }
 
-// Draws a pair with equal marked registers and an input, and tries them.
-fn draw(
-    alloc: Global,
-    pair: &Pair,
-    so_far: &mut Refining,
-    source: &mut Source,
-) -> Result<(), NoMemory>
-    requires at { IsRefining pair.now so_far.old }
-    requires fresh { IsFresh so_far.old.journal }
-    requires marked { AreMarked pair.now so_far.old.front.equal }
-    requires few { length so_far.old.journal < 100000 }
-    ensures at { OnOk result (IsRefining pair.now so_far.new) }
-    ensures fresh { OnOk result (IsFresh so_far.new.journal) }
-    ensures equal { OnOk result (so_far.new.front.equal ≡ so_far.old.front.equal) }
-    ensures least { OnOk result (length so_far.old.journal ≤ length so_far.new.journal) }
-    ensures most { OnOk result (length so_far.new.journal ≤ length so_far.old.journal + 1) }
+// The last pair that was blocked, the other way round, with its input.
+fn mirrored(alloc: Global, journal: &Journal, count: usize) -> Result<Option<Guess>, NoMemory> {
+    let entries = journal.as_slice();
+    if entries.is_empty() {
+        return Ok(None);
+    }
+    let Entry::Blocked(hop, both) = &entries[entries.len() - 1] else {
+        return Ok(None);
+    };
+    let bits = both.as_slice();
+    if bits.len() < count {
+        return Ok(None);
+    }
+    let input = Bits::from_slice(alloc, hop.input.as_slice())?;
+    let left = Bits::from_slice(alloc, &bits[count..])?;
+    let right = Bits::from_slice(alloc, &bits[..count])?;
+    Ok(Some(Guess { input, left, right }))
+}
+
+// Whether the guess has a bit for each input and each register.
+fn fits(pair: &Pair, guess: &Guess) -> bool
+    ensures input { result ≡ true → length guess.now.input ≡ pair.now.left.inputs }
+    ensures left { result ≡ true → length guess.now.left ≡ pair.now.left.states }
+    ensures right { result ≡ true → length guess.now.right ≡ pair.now.right.states }
 {
     let left_gates = pair.left;
     let right_gates = pair.right;
-    let sparse = source.bit();
-    let close = source.bit();
-    let input = source.bits(alloc, left_gates.inputs, sparse)?;
-    let left = source.bits(alloc, left_gates.states, false)?;
-    let free = if close {
-        source.near(alloc, left.as_slice(), right_gates.states)?
-    } else {
-        source.bits(alloc, right_gates.states, false)?
-    };
-    let marks = so_far.front.equal.as_slice();
-    let right = sharing_state(
-        alloc,
-        right_gates.states,
-        marks,
-        left.as_slice(),
-        free.as_slice(),
-    )?;
-    try_pair(
-        alloc,
-        pair,
-        so_far,
-        input.as_slice(),
-        left.as_slice(),
-        right.as_slice(),
-    )?;
-    Ok(())
+    guess.input.len() == left_gates.inputs as usize
+        && guess.left.len() == left_gates.states as usize
+        && guess.right.len() == right_gates.states as usize
 }
 
-// Blocks pairs that are drawn, while a unit is left.
-fn find(alloc: Global, pair: &Pair, so_far: &mut Refining, left: u32) -> Result<(), NoMemory>
+// Whether the guess is a related pair that its input leads out of the relation.
+fn is_case(alloc: Global, pair: &Pair, so_far: &Refining, guess: &Guess) -> Result<bool, NoMemory>
+    requires at { IsRefining pair.now so_far.now }
+    requires marked { AreMarked pair.now so_far.now.front.equal }
+    requires few { length so_far.now.journal < 100000 }
+    ensures { IfOk result (λ yes. yes ≡ true → IsCasePart pair.now so_far.now.front guess.now.input guess.now.left guess.now.right) }
+{
+    if !fits(pair, guess) {
+        return Ok(false);
+    }
+    let front = &so_far.front;
+    let input = guess.input.as_slice();
+    let left = guess.left.as_slice();
+    let right = guess.right.as_slice();
+    let both = joined(alloc, left, right)?;
+    if !in_relation(front, &both) {
+        return Ok(false);
+    }
+    leaves(alloc, pair, front.blocked.as_slice(), input, left, right)
+}
+
+// Blocks the pair of the guess where it is a case. True says that it was.
+fn try_guess(
+    alloc: Global,
+    pair: &Pair,
+    so_far: &mut Refining,
+    guess: &Guess,
+) -> Result<bool, NoMemory>
+    requires at { IsRefining pair.now so_far.old }
+    requires fresh { IsFresh so_far.old.journal }
+    requires marked { AreMarked pair.now so_far.old.front.equal }
+    requires few { length so_far.old.journal < 100000 }
+    ensures goes { OnOk result (GoesOn pair.now so_far.old so_far.new) }
+    ensures most { OnOk result (length so_far.new.journal ≤ length so_far.old.journal + 1) }
+{
+    if !is_case(alloc, pair, so_far, guess)? {
+        return Ok(false);
+    }
+    let input = guess.input.as_slice();
+    let left = guess.left.as_slice();
+    block(alloc, pair, so_far, input, left, guess.right.as_slice())?;
+    Ok(true)
+}
+
+// Tries the last pair that was blocked once more, the other way round, while a unit is left.
+fn try_mirrored(
+    alloc: Global,
+    pair: &Pair,
+    so_far: &mut Refining,
+    left: u32,
+) -> Result<(), NoMemory>
     requires at { IsRefining pair.now so_far.old }
     requires fresh { IsFresh so_far.old.journal }
     requires marked { AreMarked pair.now so_far.old.front.equal }
     requires few { length so_far.old.journal ≤ left }
     requires left { left ≤ 100000 }
-    ensures at { OnOk result (IsRefining pair.now so_far.new) }
-    ensures fresh { OnOk result (IsFresh so_far.new.journal) }
-    ensures equal { OnOk result (so_far.new.front.equal ≡ so_far.old.front.equal) }
-    ensures least { OnOk result (length so_far.old.journal ≤ length so_far.new.journal) }
+    ensures goes { OnOk result (GoesOn pair.now so_far.old so_far.new) }
     ensures few { OnOk result (length so_far.new.journal ≤ left) }
 {
-    let mut source = Source::new();
-    for _ in 0..DRAWS {
-        if so_far.journal.len() >= left as usize {
-            return Ok(());
-        }
-        draw(alloc, pair, so_far, &mut source)?;
+    if so_far.journal.len() >= left as usize {
+        return Ok(());
+    }
+    let left_gates = pair.left;
+    let found = mirrored(alloc, &so_far.journal, left_gates.states as usize)?;
+    if let Some(guess) = found {
+        try_guess(alloc, pair, so_far, &guess)?;
     }
     Ok(())
 }
 
-// Draws pairs, and asks once where a unit is left. The log refutes the question.
+// Tries a pair that is drawn, and its mirror where it is a case.
+fn draw(
+    alloc: Global,
+    pair: &Pair,
+    so_far: &mut Refining,
+    source: &mut Source,
+    left: u32,
+) -> Result<(), NoMemory>
+    requires at { IsRefining pair.now so_far.old }
+    requires fresh { IsFresh so_far.old.journal }
+    requires marked { AreMarked pair.now so_far.old.front.equal }
+    requires few { length so_far.old.journal < left }
+    requires left { left ≤ 100000 }
+    ensures goes { OnOk result (GoesOn pair.now so_far.old so_far.new) }
+    ensures few { OnOk result (length so_far.new.journal ≤ left) }
+{
+    let guess = source.guess(alloc, pair, so_far.front.equal.as_slice())?;
+    if try_guess(alloc, pair, so_far, &guess)? {
+        try_mirrored(alloc, pair, so_far, left)?;
+    }
+    Ok(())
+}
+
+// Tries pairs that are drawn, while a unit is left.
+fn find(
+    alloc: Global,
+    pair: &Pair,
+    so_far: &mut Refining,
+    source: &mut Source,
+    left: u32,
+) -> Result<(), NoMemory>
+    requires at { IsRefining pair.now so_far.old }
+    requires fresh { IsFresh so_far.old.journal }
+    requires marked { AreMarked pair.now so_far.old.front.equal }
+    requires few { length so_far.old.journal ≤ left }
+    requires left { left ≤ 100000 }
+    ensures goes { OnOk result (GoesOn pair.now so_far.old so_far.new) }
+    ensures few { OnOk result (length so_far.new.journal ≤ left) }
+{
+    'draws: for _ in 0..DRAWS {
+        if so_far.journal.len() >= left as usize {
+            return Ok(());
+        }
+        draw(alloc, pair, so_far, source, left)?;
+    }
+    Ok(())
+}
+
+// Tries guesses, and asks once where none was a case. The log refutes the question.
 pub(crate) fn round(
     alloc: Global,
     pair: &Pair,
     so_far: &mut Refining,
+    source: &mut Source,
     left: u32,
 ) -> Result<Option<Log>, NoMemory>
     requires small_left { IsSmall pair.now.left }
@@ -196,10 +283,11 @@ pub(crate) fn round(
     ensures fresh { IfOk result (λ log. IfNone log (length so_far.new.journal < left → IsFresh so_far.new.journal)) }
     ensures refutes { IfOk result (λ log. IfSome log (λ l. Refutes pair.now so_far.new.front Split l)) }
 {
-    find(alloc, pair, so_far, left)?;
-    if so_far.journal.len() >= left as usize {
+    let before = so_far.journal.len();
+    try_mirrored(alloc, pair, so_far, left)?;
+    find(alloc, pair, so_far, source, left)?;
+    if before < so_far.journal.len() {
         return Ok(None);
     }
-    let log = turn(alloc, pair, so_far, left)?;
-    Ok(log)
+    turn(alloc, pair, so_far, left)
 }

@@ -28,7 +28,7 @@ impl Numbers {
     }
 }
 
-fn numbers(alloc: Global, text: &[u8]) -> io::Result<Numbers> {
+fn read_numbers(alloc: Global, text: &[u8]) -> io::Result<Numbers> {
     let mut all = Vec::new(alloc);
     let mut now = 0u32;
     let mut some = false;
@@ -108,7 +108,7 @@ fn main(rt: HostRuntime) -> io::Result<()> {
     let alloc = rt.alloc();
     let mut text = Vec::new(alloc);
     let _count = rt.stdin().read_to_end(&mut text)?;
-    let mut from = numbers(alloc, &text)?;
+    let mut from = read_numbers(alloc, &text)?;
     let gates = gates_of(alloc, &mut from)?;
     let pattern = pattern_of(alloc, &mut from, gates.inputs)?;
     let start = Instant::now(&rt)?;
