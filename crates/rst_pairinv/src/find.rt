@@ -8,21 +8,22 @@ ghost use Rattle.rst_pairinv.specs.Refining.{AreMarked, Refutes};
 ghost use Rattle.rst_pairinv.specs.Turns.{IsRefining, IsFresh, IsCasePart, GoesOn};
 
 use crate::block::{Refining, block};
-use crate::hops::leaves;
+use crate::hops::{cycle_of, leaves};
 use crate::states::{bit_at, joined};
 use crate::turn::turn;
 use rst_clause::Log;
 use rst_gate::Bits;
 use rst_outside::NoMemory;
-use rst_pair::{Entry, Journal, Pair, in_relation};
+use rst_pair::{Entry, Hop, Journal, Pair, in_relation};
+use rst_value::Tern;
 use std::alloc::Global;
 
 // How many pairs are drawn before a question.
-const DRAWS: u32 = 512;
+const DRAWS: u32 = 1024;
 
 // An input and a pair of states, which may split under it.
 #[derive(Drop)]
-pub(crate) struct Guess {
+struct Guess {
     input: Bits,
     left: Bits,
     right: Bits,
@@ -30,13 +31,13 @@ pub(crate) struct Guess {
 
 // A linear congruential source of bits.
 #[derive(Drop)]
-pub(crate) struct Source {
+struct Source {
     now: u32,
     ghost small: { now < 2 ^ 31 },
 }
 
 impl Source {
-    pub(crate) fn new() -> Source {
+    fn new() -> Source {
         Source { now: 1 }
     }
 
@@ -108,6 +109,107 @@ impl Source {
         let left = self.bits(alloc, left_gates.states, false)?;
         let right = self.near(alloc, left.as_slice(), marks, right_gates.states)?;
         Ok(Guess { input, left, right })
+    }
+}
+
+// The known places of blocked cubes: twice the place, and one more where it is 1.
+#[derive(Drop)]
+struct Known {
+    cubes: Vec<Vec<u32>>,
+}
+
+impl Known {
+    fn learn(&mut self, alloc: Global, cube: &[Tern]) -> Result<(), NoMemory> {
+        let mut places = Vec::new(alloc);
+        let mut place = 0u32;
+        for known in cube {
+            match known {
+                Tern::Zero => places.push(place)?,
+                Tern::One => places.push(place.saturating_add(1))?,
+                Tern::Unknown => {}
+            }
+            place = place.saturating_add(2);
+        }
+        self.cubes.push(places)?;
+        Ok(())
+    }
+
+    // Learns the cubes that it doesn't know yet.
+    fn learn_all(&mut self, alloc: Global, hops: &[Hop]) -> Result<(), NoMemory> {
+        let from = self.cubes.len();
+        for i in from..hops.len() {
+            self.learn(alloc, hops[i].cube.as_slice())?;
+        }
+        Ok(())
+    }
+
+    // Whether one of the cubes has the bits.
+    fn meets(&self, bits: &[bool]) -> bool {
+        for places in self.cubes.as_slice() {
+            if agree(places.as_slice(), bits) {
+                return true;
+            }
+        }
+        false
+    }
+
+    // Whether the guess seems to be a case, at a glance.
+    fn may_split(&self, alloc: Global, pair: &Pair, guess: &Guess) -> Result<bool, NoMemory> {
+        if !fits(pair, guess) {
+            return Ok(false);
+        }
+        let input = guess.input.as_slice();
+        let left = guess.left.as_slice();
+        let right = guess.right.as_slice();
+        let both = joined(alloc, left, right)?;
+        if self.meets(both.as_slice()) {
+            return Ok(false);
+        }
+        let cycle = cycle_of(alloc, pair, input, left, right)?;
+        Ok(cycle.differ || self.meets(cycle.successors.as_slice()))
+    }
+}
+
+// Whether the bits have each known place.
+fn agree(places: &[u32], bits: &[bool]) -> bool {
+    for place in places {
+        let at = (*place / 2) as usize;
+        if at >= bits.len() || bits[at] != (*place % 2 == 1) {
+            return false;
+        }
+    }
+    true
+}
+
+// What draws pairs, and what it knows of the blocked cubes.
+#[derive(Drop)]
+pub(crate) struct Finder {
+    source: Source,
+    known: Known,
+}
+
+impl Finder {
+    pub(crate) fn new(alloc: Global) -> Finder {
+        let source = Source::new();
+        let cubes = Vec::new(alloc);
+        let known = Known { cubes };
+        Finder { source, known }
+    }
+
+    // A guess that seems to be a case, if this draw is one.
+    fn guess(
+        &mut self,
+        alloc: Global,
+        pair: &Pair,
+        so_far: &Refining,
+    ) -> Result<Option<Guess>, NoMemory> {
+        let front = &so_far.front;
+        self.known.learn_all(alloc, front.blocked.as_slice())?;
+        let guess = self.source.guess(alloc, pair, front.equal.as_slice())?;
+        if self.known.may_split(alloc, pair, &guess)? {
+            return Ok(Some(guess));
+        }
+        Ok(None)
     }
 }
 
@@ -218,7 +320,7 @@ fn draw(
     alloc: Global,
     pair: &Pair,
     so_far: &mut Refining,
-    source: &mut Source,
+    finder: &mut Finder,
     left: u32,
 ) -> Result<(), NoMemory>
     requires at { IsRefining pair.now so_far.old }
@@ -229,7 +331,9 @@ fn draw(
     ensures goes { OnOk result (GoesOn pair.now so_far.old so_far.new) }
     ensures few { OnOk result (length so_far.new.journal ≤ left) }
 {
-    let guess = source.guess(alloc, pair, so_far.front.equal.as_slice())?;
+    let Some(guess) = finder.guess(alloc, pair, so_far)? else {
+        return Ok(());
+    };
     if try_guess(alloc, pair, so_far, &guess)? {
         try_mirrored(alloc, pair, so_far, left)?;
     }
@@ -241,7 +345,7 @@ fn find(
     alloc: Global,
     pair: &Pair,
     so_far: &mut Refining,
-    source: &mut Source,
+    finder: &mut Finder,
     left: u32,
 ) -> Result<(), NoMemory>
     requires at { IsRefining pair.now so_far.old }
@@ -256,7 +360,7 @@ fn find(
         if so_far.journal.len() >= left as usize {
             return Ok(());
         }
-        draw(alloc, pair, so_far, source, left)?;
+        draw(alloc, pair, so_far, finder, left)?;
     }
     Ok(())
 }
@@ -266,7 +370,7 @@ pub(crate) fn round(
     alloc: Global,
     pair: &Pair,
     so_far: &mut Refining,
-    source: &mut Source,
+    finder: &mut Finder,
     left: u32,
 ) -> Result<Option<Log>, NoMemory>
     requires small_left { IsSmall pair.now.left }
@@ -285,7 +389,7 @@ pub(crate) fn round(
 {
     let before = so_far.journal.len();
     try_mirrored(alloc, pair, so_far, left)?;
-    find(alloc, pair, so_far, source, left)?;
+    find(alloc, pair, so_far, finder, left)?;
     if before < so_far.journal.len() {
         return Ok(None);
     }

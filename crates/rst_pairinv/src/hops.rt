@@ -38,11 +38,11 @@ fn first_with(hops: &[Hop], both: &Bits) -> Option<u32>
 // What one cycle of both sides shows of a pair: whether the outputs differ, and the successors.
 #[derive(Drop)]
 pub(crate) struct Cycle {
-    differ: bool,
-    successors: Bits,
+    pub(crate) differ: bool,
+    pub(crate) successors: Bits,
 }
 
-fn cycle_of(
+pub(crate) fn cycle_of(
     alloc: Global,
     pair: &Pair,
     input: &[bool],

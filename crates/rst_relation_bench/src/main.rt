@@ -2,6 +2,7 @@
 #![tactic(auto)]
 
 use rst_gate::{Bits, Cube, Edge, Gate, Gates, Pattern};
+use rst_early::early;
 use rst_pair::{Entry, Journal};
 use rst_relation::{Decision, decide};
 use rst_value::Tern;
@@ -111,6 +112,17 @@ fn main(rt: HostRuntime) -> io::Result<()> {
     let mut from = read_numbers(alloc, &text)?;
     let gates = gates_of(alloc, &mut from)?;
     let pattern = pattern_of(alloc, &mut from, gates.inputs)?;
+    let start = Instant::now(&rt)?;
+    match early(alloc, &gates, &pattern, 4096) {
+        Ok(Some(it)) => {
+            let cycles = it.word.len();
+            print!(&rt; "early REFUTED word {cycles}")?;
+        }
+        Ok(None) => print!(&rt; "early none")?,
+        Err(_) => print!(&rt; "no memory")?,
+    }
+    let took = start.elapsed(&rt)?.as_millis();
+    println!(&rt; " ms {took}")?;
     let start = Instant::now(&rt)?;
     match decide(alloc, &gates, &pattern, 20000) {
         Ok(Decision::Signed { equal: _, blocked: _, split: _, land: _, journal }) => {
