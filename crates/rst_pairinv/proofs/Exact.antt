@@ -29,7 +29,7 @@ use Rattle.rst_query_laws.specs.Conditions.{AreShared, IsAbout}
 use Rattle.rst_query_laws.proofs.Solutions.{solutions_are}
 use Rattle.rst_pairinv.specs.Blocking.{AreBlocked}
 use Rattle.rst_pairinv.specs.Refining.{AreMarked, Refutes, IsExact, KeepsWork, front_with}
-use Rattle.rst_pairinv.specs.Turns.{Leaves, clauses_posed, AreSplitting, IsRefining}
+use Rattle.rst_pairinv.specs.Turns.{IsCasePart, clauses_posed, AreSplitting, IsRefining}
 use Rattle.rst_pairinv.proofs.Bits.{open_bits, length_open, length_sharing, sharing_open, read_parts}
 use Rattle.rst_pairinv.proofs.Blocked.{is_front, same_outside}
 
@@ -138,12 +138,6 @@ exact p f log sides marked no_freed blocked refutes s t pair =
     )
 
 -- the parts of a solution
-pub record IsCasePart (p : Sides) (f : Front') (x s t : List Bool) : Type 0 where
-  pub width : length x ≡ p.left.inputs
-  pub states : IsPair p s t
-  pub related : IsRelated f s t
-  pub leaves : Leaves p f.blocked x s t
-
 case_part :
     (p : Sides) (f : Front') (bits : List Bool) → AreMarked p f.equal → IsQueryCase p f Split bits
     → (let left = take p.left.states (drop p.left.inputs bits) in
@@ -212,7 +206,23 @@ take_all (suc n) (x ∷ xs) h = ap (λ (r : List Bool). x ∷ r) (take_all n xs 
 pub rest_all : (n : ℕ) (xs : List Bool) → take (length xs - n) (drop n xs) ≡ drop n xs
 rest_all n xs = take_all (length xs - n) (drop n xs) (omega (arith, length-drop n xs))
 
--- the state that shares the marked registers, by other numbers
-pub same_state :
-    (n i : ℕ) (marks ms s bits bs : List Bool) → n ≡ i → marks ≡ ms → bits ≡ bs → sharing_state n marks s bits ≡ sharing_state i ms s bs
-same_state n i marks ms s bits bs e f g = cc
+-- the parts of a solution, as they are read
+pub read_case :
+    (p : Sides) (it : Refining) (bits : List Bool) (l r : Circuit) (marks t : List Bool) → l ≡ p.left → r ≡ p.right → marks ≡ it.front.equal
+    → AreSides p → AreMarked p it.front.equal → IsRefining p it
+    → IsSolution (posed p it.front Split).free (clauses_posed p it.front) bits
+    → t ≡ sharing_state r.states marks (take (l.inputs + l.states - l.inputs) (drop l.inputs bits))
+    (take (length bits - (l.inputs + l.states)) (drop (l.inputs + l.states) bits))
+    → IsCasePart p it.front (take l.inputs bits) (take (l.inputs + l.states - l.inputs) (drop l.inputs bits)) t
+read_case p it bits l r marks t left right is_marks sides marked at solution is =
+    let inputs : l.inputs ≡ p.left.inputs = ap (λ (g : Circuit). g.inputs) left in
+    let states : l.states ≡ p.left.states = ap (λ (g : Circuit). g.states) left in
+    let others : r.states ≡ p.right.states = ap (λ (g : Circuit). g.states) right in
+    let both : l.inputs + l.states ≡ p.left.inputs + p.left.states = omega (arith, inputs, states) in
+    let s = take (l.inputs + l.states - l.inputs) (drop l.inputs bits) in
+    let behind = rest_all (l.inputs + l.states) bits ∙ ap (λ (k : ℕ). drop k bits) both in
+    let same = ap (λ (n : ℕ). sharing_state n marks s (take (length bits - (l.inputs + l.states)) (drop (l.inputs + l.states) bits))) others
+    ∙ ap (λ (m : List Bool). sharing_state p.right.states m s (take (length bits - (l.inputs + l.states)) (drop (l.inputs + l.states) bits))) is_marks
+    ∙ ap (λ (bs : List Bool). sharing_state p.right.states it.front.equal s bs) behind in
+    case_of_solution p it.front bits (take l.inputs bits) s t sides marked (is_front p it.front at.count at.none_freed at.hops) solution
+    (ap (λ (k : ℕ). take k bits) inputs) (same_part bits l.inputs l.states p.left.inputs p.left.states inputs states) (is ∙ same)

@@ -1,5 +1,5 @@
 -- Where the input of a splitting pair leads it, and what its hop is when it is made wide.
-use Rattle.std.proofs.Common.{◌≡◌, ◌∙◌, ℕ, ◌<◌, ◌≤◌, ◌+◌, ◌⊎◌, inl, inr, Bool, true, false, List, [], ◌∷◌, ◌++◌, length, map, refl, ap, sym, subst, arith, length-append}
+use Rattle.std.proofs.Common.{◌≡◌, ◌∙◌, ℕ, ◌<◌, ◌≤◌, ◌+◌, ◌⊎◌, inl, inr, Bool, true, false, not, List, [], ◌∷◌, ◌++◌, length, map, refl, ap, sym, subst, arith, length-append}
 use Rattle.std.specs.Prelude.{Option, None, Some, IfSome, IfNone}
 use Rattle.std.specs.Option.{ForSome}
 use Rattle.std.specs.List.{AllZip}
@@ -18,6 +18,14 @@ use Rattle.rst_pairinv.specs.Blocking.{IsBlockedHop}
 use Rattle.rst_pairinv.specs.Turns.{Leaves}
 use Rattle.rst_pairinv.proofs.Blocked.{length_cubes, cube_wide}
 
+pub not_true : (b : Bool) → not b ≡ true → b ≡ true → ⊥
+not_true true e f = let g : false ≡ true = e in absurd (cc)
+not_true false e f = let g : false ≡ true = f in absurd (cc)
+
+pub not_false : (b : Bool) → not b ≡ false → b ≡ true
+not_false true e = refl
+not_false false e = let g : true ≡ false = e in absurd (cc)
+
 -- by the first blocked cube that holds the successors, where the outputs are equal
 pub leads_by :
     (p : Sides) (blocked : List Hop) (input s t : List Bool) (next : Option ℕ)
@@ -34,6 +42,15 @@ leads_by p blocked input s t (Some k) same leaves found none = (
   λ j e. let g : k ≡ j = cc in subst (λ (m : ℕ). m < length blocked) g found.0,
   found.1,
 )
+
+-- by a blocked cube that holds the successors
+pub leaves_by :
+    (p : Sides) (blocked : List Hop) (input s t successors : List Bool) (next : Option ℕ) (k : ℕ) → next ≡ Some k
+    → successors ≡ (left_machine p).step s input ++ (right_machine p).step t input
+    → IfSome next (λ k. (k < length blocked) × AllZip StandsFor (cube_at blocked k) successors) → Leaves p blocked input s t
+leaves_by p blocked input s t successors None k is same found = absurd (let e : None ≡ Some k = is in cc)
+leaves_by p blocked input s t successors (Some j) k is same found =
+    inr (j, omega (arith, found.0, length_cubes blocked), subst (λ (both : List Bool). AllZip StandsFor (cube_at blocked j) both) same found.1)
 
 -- each cube that is aimed at has a place for each register
 aim_is_wide :

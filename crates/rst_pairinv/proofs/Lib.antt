@@ -6,3 +6,4 @@ pub mod Bits
 pub mod Exact
 pub mod Leading
 pub mod Asked
+pub mod Finding

@@ -1,5 +1,5 @@
 -- What is known of the hops and the work so far, while the relation is refined.
-use Rattle.std.specs.Prelude.{◌≡◌, ℕ, ◌<◌, ℤ, Bool, false, List, [], ◌∷◌, ◌++◌, length, take, slice_index_or, ◌⊎◌}
+use Rattle.std.specs.Prelude.{◌≡◌, ℕ, ◌<◌, ◌≤◌, ◌+◌, ℤ, Bool, true, false, List, [], ◌∷◌, ◌++◌, length, take, slice_index_or, ◌⊎◌}
 use Rattle.rst_value.specs.declared.tern.Tern.{Tern}
 use Rattle.rst_clause.specs.Results.{largest}
 use Rattle.rst_solve.specs.declared.solver.Answer.{Answer}
@@ -9,19 +9,34 @@ use Rattle.rst_pair.specs.declared.query.Query.TheVariants.{Split}
 use Rattle.rst_pair.specs.declared.query.Kind.TheVariants as kind
 use Rattle.rst_pair.specs.declared.journal.Entry.{Entry}
 use Rattle.rst_pair.specs.declared.journal.Entry.TheVariants.{Conflict, Blocked}
-use Rattle.rst_pair.specs.Sides.{Sides, left_machine, right_machine}
+use Rattle.rst_pair.specs.Sides.{Sides, left_machine, right_machine, IsPair}
 use Rattle.rst_pair.specs.Aims.{LiesInSome}
 use Rattle.rst_pair.specs.Hops.{cubes_of}
-use Rattle.rst_pair.specs.Fronts.{Front'}
+use Rattle.rst_pair.specs.Fronts.{Front', IsRelated}
 use Rattle.rst_pose.specs.Posed.{posed}
 use Rattle.rst_pose.specs.Works.{Search, blocked_of, freed_of, paths_of, phase, IsTrueEntry}
 use Rattle.rst_pairinv.specs.declared.block.Refining.{Refining}
+use Rattle.rst_pairinv.specs.declared.hops.Cycle.{Cycle}
 use Rattle.rst_pairinv.specs.Blocking.{AreBlocked}
 
 -- the outputs differ, or the successors lie in a blocked cube
 abbrev pub Leaves : Sides → List Hop → List Bool → List Bool → List Bool → Type 0
 Leaves p blocked input s t = ((left_machine p).out s input ≡ (right_machine p).out t input → ⊥)
     ⊎ LiesInSome (cubes_of blocked) ((left_machine p).step s input) ((right_machine p).step t input)
+
+-- a related pair that the input leads out of the relation
+pub record IsCasePart (p : Sides) (f : Front') (x s t : List Bool) : Type 0 where
+  pub width : length x ≡ p.left.inputs
+  pub states : IsPair p s t
+  pub related : IsRelated f s t
+  pub leaves : Leaves p f.blocked x s t
+
+-- whether the outputs of the pair differ under the input, and its successors
+pub record IsCycle (p : Sides) (input s t : List Bool) (it : Cycle) : Type 0 where
+  pub apart : it.differ ≡ true → (left_machine p).out s input ≡ (right_machine p).out t input → ⊥
+  pub alike : it.differ ≡ false → (left_machine p).out s input ≡ (right_machine p).out t input
+  pub successors : it.successors ≡ (left_machine p).step s input ++ (right_machine p).step t input
+  pub count : length it.successors ≡ p.left.states + p.right.states
 
 -- a search that reads no more than the pair and the marked registers
 abbrev pub plain_search : Sides → List Bool → Search
@@ -48,6 +63,13 @@ pub record IsRefining (p : Sides) (it : Refining) : Type 0 where
 -- no path of the next question is noted yet
 abbrev pub IsFresh : List Entry → Type 0
 IsFresh entries = paths_of kind.Split [] entries ≡ []
+
+-- hops and work stay together, and none of them goes
+pub record GoesOn (p : Sides) (before now : Refining) : Type 0 where
+  pub at : IsRefining p now
+  pub fresh : IsFresh now.journal
+  pub equal : now.front.equal ≡ before.front.equal
+  pub least : length before.journal ≤ length now.journal
 
 -- the hop joins the blocked ones, and its entry the work
 pub record Notes (hop : Hop) (pair : List Bool) (before now : Refining) : Type 0 where

@@ -1,6 +1,6 @@
 // The blocked hop of one pair of states: where its input leads, and its cube made wide.
 
-ghost use Rattle.std.specs.Prelude.{◌≡◌, ◌+◌, ◌^◌, ◌<◌, ◌≤◌, ◌++◌, ℕ, map, length, IfOk, IfSome, IfNone};
+ghost use Rattle.std.specs.Prelude.{◌≡◌, ◌^◌, ◌<◌, ◌≤◌, ◌++◌, ℕ, true, map, length, IfOk, IfSome, IfNone};
 ghost use Rattle.std.specs.List.{All, AllZip};
 ghost use Rattle.std.specs.Option.{ForSome};
 ghost use Rattle.rst_value.specs.Terns.{known, StandsFor};
@@ -9,7 +9,7 @@ ghost use Rattle.rst_pair.specs.Aims.{Leads};
 ghost use Rattle.rst_pair.specs.Hops.{AreHops, blocked_aim, cube_at, cubes_of};
 ghost use Rattle.rst_pair.specs.Fronts.{IsFront};
 ghost use Rattle.rst_pairinv.specs.Blocking.{IsBlockedHop};
-ghost use Rattle.rst_pairinv.specs.Turns.{Leaves};
+ghost use Rattle.rst_pairinv.specs.Turns.{Leaves, IsCycle};
 
 use crate::states::{are_sides, joined};
 use rst_gate::{Bits, has, known_cube};
@@ -35,6 +35,33 @@ fn first_with(hops: &[Hop], both: &Bits) -> Option<u32>
     None
 }
 
+// What one cycle of both sides shows of a pair: whether the outputs differ, and the successors.
+#[derive(Drop)]
+pub(crate) struct Cycle {
+    pub(crate) differ: bool,
+    pub(crate) successors: Bits,
+}
+
+pub(crate) fn cycle_of(
+    alloc: Global,
+    pair: &Pair,
+    input: &[bool],
+    left: &[bool],
+    right: &[bool],
+) -> Result<Cycle, NoMemory>
+    requires input { length input.now ≡ pair.now.left.inputs }
+    requires states { IsPair pair.now left.now right.now }
+    ensures { IfOk result (λ it. IsCycle pair.now input.now left.now right.now it) }
+{
+    let left_gates = pair.left;
+    let right_gates = pair.right;
+    let first = two_cycle(alloc, left_gates, left, input)?;
+    let second = two_cycle(alloc, right_gates, right, input)?;
+    let differ = first.outs.as_slice() != second.outs.as_slice();
+    let successors = joined(alloc, first.nexts.as_slice(), second.nexts.as_slice())?;
+    Ok(Cycle { differ, successors })
+}
+
 // Where the input leads the pair, by the next hop: to different outputs, or else into the first
 // blocked cube that holds the successors.
 pub(crate) fn next_of(
@@ -53,15 +80,36 @@ pub(crate) fn next_of(
     ensures earlier { IfOk result (λ next. ForSome next (λ k. k < length blocked.now)) }
     ensures leads { IfOk result (λ next. Leads pair.now (blocked_aim blocked.now next) input.now left.now right.now) }
 {
-    let left_gates = pair.left;
-    let right_gates = pair.right;
-    let first = two_cycle(alloc, left_gates, left, input)?;
-    let second = two_cycle(alloc, right_gates, right, input)?;
-    if first.outs.as_slice() != second.outs.as_slice() {
+    let cycle = cycle_of(alloc, pair, input, left, right)?;
+    if cycle.differ {
         return Ok(None);
     }
-    let successors = joined(alloc, first.nexts.as_slice(), second.nexts.as_slice())?;
-    Ok(first_with(blocked, &successors))
+    Ok(first_with(blocked, &cycle.successors))
+}
+
+// Whether the outputs differ or a blocked cube holds the successors.
+pub(crate) fn leaves(
+    alloc: Global,
+    pair: &Pair,
+    blocked: &[Hop],
+    input: &[bool],
+    left: &[bool],
+    right: &[bool],
+) -> Result<bool, NoMemory>
+    requires few { length blocked.now ≤ 100000 }
+    requires hops { AreHops pair.now blocked.now }
+    requires input { length input.now ≡ pair.now.left.inputs }
+    requires states { IsPair pair.now left.now right.now }
+    ensures { IfOk result (λ yes. yes ≡ true → Leaves pair.now blocked.now input.now left.now right.now) }
+{
+    let cycle = cycle_of(alloc, pair, input, left, right)?;
+    if cycle.differ {
+        return Ok(true);
+    }
+    match first_with(blocked, &cycle.successors) {
+        Some(_) => Ok(true),
+        None => Ok(false),
+    }
 }
 
 // The hop of one pair.

@@ -3,6 +3,7 @@
 #![tactic(auto)]
 
 mod block;
+mod find;
 mod hops;
 mod refining;
 mod states;

@@ -9,8 +9,8 @@ ghost use Rattle.rst_pairinv.specs.Refining.{AreMarked, Refutes, IsExact, KeepsW
 ghost use Rattle.rst_pairinv.specs.Answers.{blocked_in, journal_in, IsSpent, IsDone, WithLog};
 
 use crate::block::Refining;
+use crate::find::{Finder, round};
 use crate::states::are_sides;
-use crate::turn::turn;
 use rst_clause::Log;
 use rst_gate::Bits;
 use rst_outside::NoMemory;
@@ -104,11 +104,12 @@ pub fn refine(alloc: Global, pair: &Pair, equal: &Bits, left: u32) -> Result<Ref
 {
     are_sides(pair);
     let mut so_far = start(alloc, equal)?;
+    let mut finder = Finder::new(alloc);
     'turns: loop {
         if so_far.journal.len() >= left as usize {
             return Ok(spent(so_far));
         }
-        if let Some(log) = turn(alloc, pair, &mut so_far, left)? {
+        if let Some(log) = round(alloc, pair, &mut so_far, &mut finder, left)? {
             return Ok(done(so_far, log));
         }
     }

@@ -10,7 +10,7 @@ use rst_pair::Pair;
 use std::alloc::Global;
 
 // The bit at a place. Behind the end it is 0.
-fn bit_at(bits: &[bool], i: usize) -> bool
+pub(crate) fn bit_at(bits: &[bool], i: usize) -> bool
     ensures { result ≡ slice_index_or bits.now i false }
 {
     if i < bits.len() { bits[i] } else { false }

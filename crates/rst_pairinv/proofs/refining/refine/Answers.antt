@@ -10,11 +10,11 @@ returns-then-len-left-clause-work c =
 
 pub returns-in-Some-clause-work : goal.returns-in-Some-clause-work
 returns-in-Some-clause-work c =
-    work_behind c.args.pair.now c.args.equal.now c.turn.new.so_far (journal_in c.done.result) c.in_ok-log.ensures.at
+    work_behind c.args.pair.now c.args.equal.now c.round.new.so_far (journal_in c.done.result) c.in_ok-log.ensures.at
     (c.in_ok-log.ensures.equal ∙ c.turns.invariant.equal) c.done.ensures.journal
 
 pub returns-in-Some-clause-exact : goal.returns-in-Some-clause-exact
 returns-in-Some-clause-exact c done =
     let refutes = rw c.in-Some.is at c.in_ok-log.ensures.refutes in
-    exact_behind c.args.pair.now c.args.equal.now c.turn.new.so_far (blocked_in c.done.result) _ c.are_sides.ensures c.requires.marked
+    exact_behind c.args.pair.now c.args.equal.now c.round.new.so_far (blocked_in c.done.result) _ c.are_sides.ensures c.requires.marked
     c.in_ok-log.ensures.at (c.in_ok-log.ensures.equal ∙ c.turns.invariant.equal) c.done.ensures.blocked refutes

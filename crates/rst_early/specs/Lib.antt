@@ -1,0 +1,2 @@
+-- What refutes a pattern of one design.
+pub mod Early
