@@ -11,6 +11,9 @@ use Rattle.rst_pose.specs.Posing.{IsSmall}
 use Rattle.rst_pose.specs.Works.{blocked_of}
 use Rattle.rst_pairinv.specs.Blocking.{AreBlocked}
 use Rattle.rst_pairinv.specs.Refining.{Refutes, IsExact, KeepsWork}
+use Rattle.rst_early.specs.declared.apart.Apart.{Apart}
+use Rattle.rst_relation.specs.declared.decision.Decision.{Decision}
+use Rattle.rst_relation.specs.declared.decision.Decision.TheVariants.{Refuted}
 use Rattle.rst_relation.specs.Decisions.{one_design, AreMarkedBehind}
 
 -- gates and a pattern of their inputs within the limits
@@ -29,3 +32,7 @@ pub record IsRefined (c : Circuit) (pattern : List (List Tern)) (budget : ℕ) (
   pub few : length journal ≤ budget
   pub refutes : Refutes (one_design c) f Split split
   pub exact : IsExact (one_design c) f
+
+-- what simulation found is the decision, without work
+abbrev pub IsFound : Apart → Decision → Type 0
+IsFound it d = d ≡ Refuted it.seq it.a it.b it.word []

@@ -4,12 +4,13 @@ ghost use Rattle.rst_gate.specs.GateMachines.{machine_of};
 ghost use Rattle.rst_gate.specs.Patterns.{IsPattern, PatternSigns};
 ghost use Rattle.rst_pose.specs.Posing.{IsSmall};
 ghost use Rattle.rst_relation.specs.Decisions.{journal_in, IsSigned, IsRefuted, IsUnknown, HasWork, HasHops, HasSplitLog, HasLandLog, HasRefutation};
-ghost use Rattle.rst_relation.specs.Deciding.{IsAsked, IsRefined};
+ghost use Rattle.rst_relation.specs.Deciding.{IsAsked, IsRefined, IsFound};
 
 use crate::Decision;
 use crate::joining::join;
 use crate::marking::{are_sides, marked};
 use rst_clause::Log;
+use rst_early::{Apart, early};
 use rst_gate::{Gates, Pattern};
 use rst_landing::{Landing, lands};
 use rst_outside::NoMemory;
@@ -84,6 +85,35 @@ fn decide_landing(
     }
 }
 
+// How many pairs are drawn before the relation is refined: as many as keep the time short.
+fn tries(gates: &Gates, pattern: &Pattern) -> u32 {
+    let cycle = gates.gates.len() / 64 + 1;
+    let cycles = pattern.len() + 8;
+    let most = 262_144 / (cycle * cycles);
+    if most > 2_048 {
+        2_048
+    } else if most < 16 {
+        16
+    } else {
+        most as u32
+    }
+}
+
+// What was found by simulation, without work of the search.
+fn refuted(alloc: Global, found: Apart) -> Decision
+    ensures { IsFound found result }
+{
+    let journal = Journal::new(alloc);
+    let Apart { seq, a, b, word } = found;
+    Decision::Refuted {
+        seq,
+        a,
+        b,
+        word,
+        journal,
+    }
+}
+
 /// Decides whether every filling of a pattern is an essential reset sequence of the gates, with at most
 /// `budget` units of work.
 ///
@@ -125,6 +155,9 @@ pub fn decide(
     if budget == 0 {
         let journal = Journal::new(alloc);
         return Ok(Decision::Unknown { equal, journal });
+    }
+    if let Some(found) = early(alloc, gates, pattern, tries(gates, pattern))? {
+        return Ok(refuted(alloc, found));
     }
     let pair = Pair {
         left: gates,
