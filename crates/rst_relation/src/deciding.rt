@@ -85,18 +85,12 @@ fn decide_landing(
     }
 }
 
-// How many pairs are drawn before the relation is refined: as many as keep the time short.
+// How many pairs are drawn before the relation is refined: fewer where a run is long.
 fn tries(gates: &Gates, pattern: &Pattern) -> u32 {
-    let cycle = gates.gates.len() / 64 + 1;
-    let cycles = pattern.len() + 8;
-    let most = 262_144 / (cycle * cycles);
-    if most > 2_048 {
-        2_048
-    } else if most < 16 {
-        16
-    } else {
-        most as u32
-    }
+    let size = gates.gates.len().min(65_536);
+    let cycles = pattern.len().min(1_024);
+    let runs = 262_144 / ((size / 64 + 1) * (cycles + 8));
+    runs.max(16).min(2_048) as u32
 }
 
 // What was found by simulation, without work of the search.
