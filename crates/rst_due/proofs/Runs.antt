@@ -32,7 +32,7 @@ gates_as words files result command other is h = subst (λ (x : Command). GatesO
 
 -- a demonstration loads no files
 pub demo_runs : (words : List (List ℕ)) (files : Option (List DeskFile)) (result : Result Ready NoMemory) (stages : ℕ)
-    → IfOk result (λ ready. Ends (Then (DemoAsks words stages) (DemoDecides words stages)) (plain_due ready)) → RunsTo words files result (Demo stages)
+    → IfOk result (λ ready. Ends (Then (DemoAsks words stages) (DemoDecides stages)) (plain_due ready)) → RunsTo words files result (Demo stages)
 demo_runs words None (Ok ready) stages h = tt
 demo_runs words (Some fs) (Ok ready) stages h = h.chain
 demo_runs words files (Err e) stages h = tt
@@ -52,7 +52,7 @@ pub sure_as : (S : Type 0) (words : List (List ℕ)) (files : Option (List DeskF
 sure_as S words files result command other is h = subst (λ (x : Command). SureOf S words files result x) (sym is) h
 
 pub demo_sure : (S : Type 0) (words : List (List ℕ)) (files : Option (List DeskFile)) (result : Result Ready NoMemory) (stages : ℕ)
-    → IfOk result (λ ready. Ends (Then (DemoAsks words stages) (DemoDecides words stages)) (plain_due ready)) → SureOf S words files result (Demo stages)
+    → IfOk result (λ ready. Ends (Then (DemoAsks words stages) (DemoDecides stages)) (plain_due ready)) → SureOf S words files result (Demo stages)
 demo_sure S words None (Ok ready) stages h = λ sure. tt
 demo_sure S words (Some fs) (Ok ready) stages h = λ sure. h.chain
 demo_sure S words files (Err e) stages h = tt
