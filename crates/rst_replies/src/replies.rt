@@ -126,12 +126,7 @@ fn copied(alloc: Global, cubes: &[Cube]) -> Result<Pattern, NoMemory>
 }
 
 // The verdict on the pattern of a design, within the budget.
-fn decided(
-    alloc: Global,
-    net: &Net,
-    pattern: &Pattern,
-    budget: u32,
-) -> Result<Verdict, NoMemory>
+fn decided(alloc: Global, net: &Net, pattern: &Pattern, budget: u32) -> Result<Verdict, NoMemory>
     requires lowerable { IsLowerable (plain_net net.now) }
     requires orderly { IsOrderly (plain_net net.now) }
     requires places { AllByRecursion (λ (places : List Tern). length places ≡ input_bits (plain_net net.now)) pattern.now }

@@ -113,8 +113,8 @@ decided_verdict (Demo stages) q due decides runs =
 -- the verdict on a question whose registers are all known
 pub known_verdict : (q : Question) (verdict : Verdict) → IsVerdictOf q verdict → Knows q → verdict ≡ SignedKnown q.pattern
 known_verdict q (SignedKnown seq) (known, is) knows = ap (λ (p : _). SignedKnown p) is
-known_verdict q (SignedRelation seq equal blocked split land) (never, more) knows = absurd (never knows)
-known_verdict q (Refuted seq a b word) (never, more) knows = absurd (never knows)
+known_verdict q (SignedRelation seq equal blocked split land) (never, some, is, relation) knows = absurd (never knows)
+known_verdict q (Refuted seq a b word) (never, some, by) knows = absurd (never knows)
 known_verdict q (Never a b blocked freed escape) decides knows = absurd decides
 known_verdict q (Alignable seq a b word blocked freed split stuck) decides knows = absurd decides
-known_verdict q (Unknown equal journal) (never, more) knows = absurd (never knows)
+known_verdict q (Unknown equal journal) (never, work) knows = absurd (never knows)

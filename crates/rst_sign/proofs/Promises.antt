@@ -359,19 +359,19 @@ module _ (words : List (List ℕ)) (old new : Outside) (outcome : Outcome) (run 
     pub gates : HasOrderedGates (netlist question)
 
   decided : (files : List DeskFile) (s : Status) → old.files ≡ Some files → outcome.status ≡ s → (s ≡ Signed) ⊎ ((s ≡ status.Refuted) ⊎ (s ≡ status.Unknown)) → Decided files s
-  decided files s told status some =
+  decided files s told ended some =
       let memory : outcome.status ≢ NoMemory = λ e. elim some [
-        | inl x ↦ let y : Signed ≡ NoMemory = sym x ∙ (sym status ∙ e) in cc
-        | inr (inl x) ↦ let y : status.Refuted ≡ NoMemory = sym x ∙ (sym status ∙ e) in cc
-        | inr (inr x) ↦ let y : status.Unknown ≡ NoMemory = sym x ∙ (sym status ∙ e) in cc
+        | inl x ↦ let y : Signed ≡ NoMemory = sym x ∙ (sym ended ∙ e) in cc
+        | inr (inl x) ↦ let y : status.Refuted ≡ NoMemory = sym x ∙ (sym ended ∙ e) in cc
+        | inr (inr x) ↦ let y : status.Unknown ≡ NoMemory = sym x ∙ (sym ended ∙ e) in cc
       ] in
       let fault : outcome.status ≢ WriteFault = λ e. elim some [
-        | inl x ↦ let y : Signed ≡ WriteFault = sym x ∙ (sym status ∙ e) in cc
-        | inr (inl x) ↦ let y : status.Refuted ≡ WriteFault = sym x ∙ (sym status ∙ e) in cc
-        | inr (inr x) ↦ let y : status.Unknown ≡ WriteFault = sym x ∙ (sym status ∙ e) in cc
+        | inl x ↦ let y : Signed ≡ WriteFault = sym x ∙ (sym ended ∙ e) in cc
+        | inr (inl x) ↦ let y : status.Refuted ≡ WriteFault = sym x ∙ (sym ended ∙ e) in cc
+        | inr (inr x) ↦ let y : status.Unknown ≡ WriteFault = sym x ∙ (sym ended ∙ e) in cc
       ] in
       let a = written memory in
-      let whole : (outcome_of a.due.answer).status ≡ s = status_kept a.due.answer outcome a.writes.carries fault ∙ status in
+      let whole : (outcome_of a.due.answer).status ≡ s = status_kept a.due.answer outcome a.writes.carries fault ∙ ended in
       let d = decided_of a.due.answer s whole some in
       let has : verdict_in a.due ≡ Some d.0 = ap (λ (x : Answer). (outcome_of x).verdict) d.1 in
       let none : outcome.unread ≡ None = unread_kept a.due.answer outcome a.writes.carries ∙ ap (λ (x : Answer). (outcome_of x).unread) d.1 in
@@ -391,29 +391,32 @@ module _ (words : List (List ℕ)) (old new : Outside) (outcome : Outcome) (run 
 
   pub signed_promise : SignedResets → (files : List DeskFile) → old.files ≡ Some files → outcome.status ≡ Signed
       → (q : Question) × IsDecided words files None q × IsSigned outcome q
-  signed_promise resets files told status =
-      let d = decided files Signed told status (inl refl) in
+  signed_promise resets files told ended =
+      let d = decided files Signed told ended (inl refl) in
       let both = resets d.asked.places d.asked.top d.asked.script d.asked.sources d.question d.verdict d.asked.gives d.gates d.decides (signed_of d.verdict d.status) in
       (d.question, d.is, record { verdict = d.verdict; has = d.has; pattern = both.0; resets = both.1 })
 
   pub refuted_promise : RefutedApart → (files : List DeskFile) → old.files ≡ Some files → outcome.status ≡ status.Refuted
       → (q : Question) × IsDecided words files None q × IsRefutedBy outcome q
-  refuted_promise apart files told status =
-      let d = decided files status.Refuted told status (inr (inl refl)) in
-      let r = refuted_of d.verdict d.status in
-      (d.question, d.is, record {
-        seq = r.seq;
-        a = r.a;
-        b = r.b;
-        word = r.word;
-        has = d.has ∙ ap (λ (v : Verdict). Some v) r.is;
-        refutes = apart d.asked.places d.asked.top d.asked.script d.asked.sources d.question r.seq r.word r.a r.b d.asked.gives d.gates (subst (IsVerdictOf d.question) r.is d.decides);
-      })
+  refuted_promise apart files told ended =
+      let d = decided files status.Refuted told ended (inr (inl refl)) in
+      let r = refuted_of d.verdict d.status in (
+        d.question,
+        d.is,
+        record {
+          seq = r.seq;
+          a = r.a;
+          b = r.b;
+          word = r.word;
+          has = d.has ∙ ap (λ (v : Verdict). Some v) r.is;
+          refutes = apart d.asked.places d.asked.top d.asked.script d.asked.sources d.question r.seq r.word r.a r.b d.asked.gives d.gates (subst (IsVerdictOf d.question) r.is d.decides);
+        },
+      )
 
   pub unknown_promise : (files : List DeskFile) → old.files ≡ Some files → outcome.status ≡ status.Unknown
       → (q : Question) × IsDecided words files None q × IsUnknown outcome q
-  unknown_promise files told status =
-      let d = decided files status.Unknown told status (inr (inr refl)) in
+  unknown_promise files told ended =
+      let d = decided files status.Unknown told ended (inr (inr refl)) in
       (d.question, d.is, unknown_of d.question outcome d.verdict d.status d.has d.decides)
 
   -- a verdict that is kept
@@ -439,9 +442,9 @@ module _ (words : List (List ℕ)) (old new : Outside) (outcome : Outcome) (run 
             (d.0, d.1, d.2.0, d.2.1)),
         (λ x.
             let v = verdict_on asks files told a x.0 x.1 in
-            let is : v.0 ≡ SignedKnown x.0.pattern = known_verdict x.0 v.0 v.1 x.2.0 in
+            let is : v.0 ≡ SignedKnown x.0.pattern = known_verdict x.0 v.0 v.1 x.2 in
             verdict_kept a.due.answer outcome a.writes.carries
-            ∙ (ap (λ (z : Answer). (outcome_of z).verdict) v.2 ∙ (ap (λ (z : Verdict). Some z) is ∙ ap (λ (p : List (List Tern)). Some (SignedKnown p)) (sym x.2.1)))),
+            ∙ (ap (λ (z : Answer). (outcome_of z).verdict) v.2 ∙ (ap (λ (z : Verdict). Some z) is ∙ ap (λ (p : List (List Tern)). Some (SignedKnown p)) (sym x.3)))),
       )
 
   -- where no count of faults rises, the outcome is that of what is due, unless memory runs out

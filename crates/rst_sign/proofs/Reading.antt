@@ -109,64 +109,64 @@ module _
     (gates_are : (flat : PlainFlat) (order : List ℕ) → IsElaborated flat → Passes flat order
     → IsInOrder (first_gate (gates_of (ordered flat order))) (gates_of (ordered flat order)).gates → IsMachineOf flat (machine_of (gates_of (ordered flat order))))
   where
-  pub signed_resets : ((flat : PlainFlat) (order : List ℕ) (m : Machine) (pattern : List (List Tern)) → IsElaborated flat → Passes flat order
-      → IsInOrder (first_gate (gates_of (ordered flat order))) (gates_of (ordered flat order)).gates → IsMachineOf flat m → IsPattern m pattern
-      → KnowsPattern (terns_of (gates_of (ordered flat order))) pattern → PatternSigns m pattern)
-      → ((flat : PlainFlat) (order : List ℕ) (m : Machine) (pattern : List (List Tern)) → IsElaborated flat → Passes flat order
-      → IsInOrder (first_gate (gates_of (ordered flat order))) (gates_of (ordered flat order)).gates → IsMachineOf flat m → IsPattern m pattern
-      → PatternSigns (machine_of (gates_of (ordered flat order))) pattern → PatternSigns m pattern)
-      → (places : Places) (top script : Text) (sources : List Text) (q : Question) (verdict : Verdict) → QuestionGives places top script sources (Ok q)
-      → HasOrderedGates (netlist q) → IsVerdictOf q verdict → IsSome (signed_pattern verdict) → (signed_pattern verdict ≡ Some q.pattern) × Resets q.flat q.pattern
-  signed_resets signs_known to_source places top script sources q (SignedKnown seq) gives in_order (knows, is) some =
-      (ap (λ (p : List (List Tern)). Some p) is, known_resets one_machine keeps_states gates_are signs_known places top script sources q gives in_order knows)
-  signed_resets signs_known to_source places top script sources q (SignedRelation seq equal blocked split land) gives in_order (never, more, is, relation) some =
-      let a : IsAccepted script q = accepted places top script sources q gives in
-      let wide = places_are script q a in (
-        ap (λ (p : List (List Tern)). Some p) is,
-        record {
-          one = one_machine q.flat q.order a.elaborated a.passes;
-          signs = λ m m_is.
-              let P : ℕ → Type 0 = λ n. AllByRecursion (λ (places : List Tern). length places ≡ n) q.pattern in
-              let fits : IsPattern m q.pattern = subst P (sym m_is.inputs) wide in
-              to_source q.flat q.order m q.pattern a.elaborated a.passes in_order m_is fits relation.signs;
-        },
-      )
-  signed_resets signs_known to_source places top script sources q (Refuted seq a b word) gives in_order decides some = let e : false ≡ true = some in cc
-  signed_resets signs_known to_source places top script sources q (Never a b blocked freed escape) gives in_order decides some = absurd decides
-  signed_resets signs_known to_source places top script sources q (Alignable seq a b word blocked freed split stuck) gives in_order decides some = absurd decides
-  signed_resets signs_known to_source places top script sources q (Undecided equal journal) gives in_order decides some = let e : false ≡ true = some in cc
+    pub signed_resets : ((flat : PlainFlat) (order : List ℕ) (m : Machine) (pattern : List (List Tern)) → IsElaborated flat → Passes flat order
+        → IsInOrder (first_gate (gates_of (ordered flat order))) (gates_of (ordered flat order)).gates → IsMachineOf flat m → IsPattern m pattern
+        → KnowsPattern (terns_of (gates_of (ordered flat order))) pattern → PatternSigns m pattern)
+        → ((flat : PlainFlat) (order : List ℕ) (m : Machine) (pattern : List (List Tern)) → IsElaborated flat → Passes flat order
+        → IsInOrder (first_gate (gates_of (ordered flat order))) (gates_of (ordered flat order)).gates → IsMachineOf flat m → IsPattern m pattern
+        → PatternSigns (machine_of (gates_of (ordered flat order))) pattern → PatternSigns m pattern)
+        → (places : Places) (top script : Text) (sources : List Text) (q : Question) (verdict : Verdict) → QuestionGives places top script sources (Ok q)
+        → HasOrderedGates (netlist q) → IsVerdictOf q verdict → IsSome (signed_pattern verdict) → (signed_pattern verdict ≡ Some q.pattern) × Resets q.flat q.pattern
+    signed_resets signs_known to_source places top script sources q (SignedKnown seq) gives in_order (knows, is) some =
+        (ap (λ (p : List (List Tern)). Some p) is, known_resets one_machine keeps_states gates_are signs_known places top script sources q gives in_order knows)
+    signed_resets signs_known to_source places top script sources q (SignedRelation seq equal blocked split land) gives in_order (never, more, is, relation) some =
+        let a : IsAccepted script q = accepted places top script sources q gives in
+        let wide = places_are script q a in (
+          ap (λ (p : List (List Tern)). Some p) is,
+          record {
+            one = one_machine q.flat q.order a.elaborated a.passes;
+            signs = λ m m_is.
+                let P : ℕ → Type 0 = λ n. AllByRecursion (λ (places : List Tern). length places ≡ n) q.pattern in
+                let fits : IsPattern m q.pattern = subst P (sym m_is.inputs) wide in
+                to_source q.flat q.order m q.pattern a.elaborated a.passes in_order m_is fits relation.signs;
+          },
+        )
+    signed_resets signs_known to_source places top script sources q (Refuted seq a b word) gives in_order decides some = let e : false ≡ true = some in cc
+    signed_resets signs_known to_source places top script sources q (Never a b blocked freed escape) gives in_order decides some = absurd decides
+    signed_resets signs_known to_source places top script sources q (Alignable seq a b word blocked freed split stuck) gives in_order decides some = absurd decides
+    signed_resets signs_known to_source places top script sources q (Undecided equal journal) gives in_order decides some = let e : false ≡ true = some in cc
 
-  pub refuted_apart : ((flat : PlainFlat) (order : List ℕ) (m : Machine) → IsElaborated flat → Passes flat order
-      → IsInOrder (first_gate (gates_of (ordered flat order))) (gates_of (ordered flat order)).gates → IsMachineOf flat m
-      → AreAlike (machine_of (gates_of (ordered flat order))) m)
-      → ((l r : Machine) (state : List Bool) (word : List (List Bool)) → AreAlike l r → KeepsStates l → IsState l state → IsWord l word → outs l state word ≡ outs r state word)
-      → ((l r : Machine) (state : List Bool) (word : List (List Bool)) → AreAlike l r → KeepsStates l → IsState l state → IsWord l word → after l state word ≡ after r state word)
-      → (places : Places) (top script : Text) (sources : List Text) (q : Question) (seq word : List (List Bool)) (a b : List Bool) → QuestionGives places top script sources (Ok q)
-      → HasOrderedGates (netlist q) → IsVerdictOf q (Refuted seq a b word) → Refutes q.flat q.pattern seq a b word
-  refuted_apart alike same_outs same_after places top script sources q seq word a b gives in_order (never, more, by) =
-      let acc : IsAccepted script q = accepted places top script sources q gives in
-      let wide = places_are script q acc in
-      let l : Machine = machine_of (gates_of (netlist q)) in
-      let is : IsMachineOf q.flat l = gates_are q.flat q.order acc.elaborated acc.passes in_order in
-      let keeps : KeepsStates l = keeps_states q.flat l is in
-      let P : ℕ → Type 0 = λ n. AllByRecursion (λ (places : List Tern). length places ≡ n) q.pattern in
-      let fits : IsPattern l q.pattern = subst P (sym is.inputs) wide in
-      let run : IsWord l seq = fillings-words l q.pattern seq fits by.fills in
-      record {
-        one = one_machine q.flat q.order acc.elaborated acc.passes;
-        fills = by.fills;
-        apart = λ m m_is.
-            let both : AreAlike l m = alike q.flat q.order m acc.elaborated acc.passes in_order m_is in
-            let behind_a : after l a seq ≡ after m a seq = same_after l m a seq both keeps by.pair.0 run in
-            let behind_b : after l b seq ≡ after m b seq = same_after l m b seq both keeps by.pair.1 run in
-            let shown_a : outs l (after l a seq) word ≡ outs m (after m a seq) word =
-            same_outs l m (after l a seq) word both keeps (after_is l keeps a seq by.pair.0 run) by.is_word ∙ ap (λ (s : List Bool). outs m s word) behind_a in
-            let shown_b : outs l (after l b seq) word ≡ outs m (after m b seq) word =
-            same_outs l m (after l b seq) word both keeps (after_is l keeps b seq by.pair.1 run) by.is_word ∙ ap (λ (s : List Bool). outs m s word) behind_b in
-            let W : ℕ → Type 0 = λ n. AllByRecursion (λ (input : List Bool). length input ≡ n) word in (
-              by.pair.0 ∙ both.registers,
-              by.pair.1 ∙ both.registers,
-              subst W both.inputs by.is_word,
-              (λ same. by.apart (shown_a ∙ (same ∙ sym shown_b))),
-            );
-      }
+    pub refuted_apart : ((flat : PlainFlat) (order : List ℕ) (m : Machine) → IsElaborated flat → Passes flat order
+        → IsInOrder (first_gate (gates_of (ordered flat order))) (gates_of (ordered flat order)).gates → IsMachineOf flat m
+        → AreAlike (machine_of (gates_of (ordered flat order))) m)
+        → ((l r : Machine) (state : List Bool) (word : List (List Bool)) → AreAlike l r → KeepsStates l → IsState l state → IsWord l word → outs l state word ≡ outs r state word)
+        → ((l r : Machine) (state : List Bool) (word : List (List Bool)) → AreAlike l r → KeepsStates l → IsState l state → IsWord l word → after l state word ≡ after r state word)
+        → (places : Places) (top script : Text) (sources : List Text) (q : Question) (seq word : List (List Bool)) (a b : List Bool) → QuestionGives places top script sources (Ok q)
+        → HasOrderedGates (netlist q) → IsVerdictOf q (Refuted seq a b word) → Refutes q.flat q.pattern seq a b word
+    refuted_apart alike same_outs same_after places top script sources q seq word a b gives in_order (never, more, by) =
+        let acc : IsAccepted script q = accepted places top script sources q gives in
+        let wide = places_are script q acc in
+        let l : Machine = machine_of (gates_of (netlist q)) in
+        let is : IsMachineOf q.flat l = gates_are q.flat q.order acc.elaborated acc.passes in_order in
+        let keeps : KeepsStates l = keeps_states q.flat l is in
+        let P : ℕ → Type 0 = λ n. AllByRecursion (λ (places : List Tern). length places ≡ n) q.pattern in
+        let fits : IsPattern l q.pattern = subst P (sym is.inputs) wide in
+        let run : IsWord l seq = fillings-words l q.pattern seq fits by.fills in
+        record {
+          one = one_machine q.flat q.order acc.elaborated acc.passes;
+          fills = by.fills;
+          apart = λ m m_is.
+              let both : AreAlike l m = alike q.flat q.order m acc.elaborated acc.passes in_order m_is in
+              let behind_a : after l a seq ≡ after m a seq = same_after l m a seq both keeps by.pair.0 run in
+              let behind_b : after l b seq ≡ after m b seq = same_after l m b seq both keeps by.pair.1 run in
+              let shown_a : outs l (after l a seq) word ≡ outs m (after m a seq) word =
+              same_outs l m (after l a seq) word both keeps (after_is l keeps a seq by.pair.0 run) by.is_word ∙ ap (λ (s : List Bool). outs m s word) behind_a in
+              let shown_b : outs l (after l b seq) word ≡ outs m (after m b seq) word =
+              same_outs l m (after l b seq) word both keeps (after_is l keeps b seq by.pair.1 run) by.is_word ∙ ap (λ (s : List Bool). outs m s word) behind_b in
+              let W : ℕ → Type 0 = λ n. AllByRecursion (λ (input : List Bool). length input ≡ n) word in (
+                by.pair.0 ∙ both.registers,
+                by.pair.1 ∙ both.registers,
+                subst W both.inputs by.is_word,
+                (λ same. by.apart (shown_a ∙ (same ∙ sym shown_b))),
+              );
+        }

@@ -8,7 +8,9 @@ ghost use Rattle.rst_question.specs.Questions.{Question, QuestionGives, netlist}
 ghost use Rattle.rst_replies.specs.Replies.{Knows, IsVerdictOf, HasOrderedGates};
 ghost use Rattle.rst_sign.specs.Promises.{Resets, Refutes, signed_pattern};
 
-use rst_source_machine::laws::{alike_machines, gates_are_sources, patterns_of_gates, sources_are_machines};
+use rst_source_machine::laws::{
+    alike_machines, gates_are_sources, patterns_of_gates, sources_are_machines,
+};
 
 /// Of a question that texts ask, whose design has gates that read earlier nodes only: where three-valued simulation of the design knows
 /// every register behind the pattern, it is an essential reset sequence of the design, however its free bits are filled (`known`); so it
