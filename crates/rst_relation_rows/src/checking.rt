@@ -1,11 +1,14 @@
 // What `check` finds of a pattern of a circuit.
-use crate::asks::{bit_at, first_input, no_hops, pattern};
+ghost use Rattle.std.specs.Prelude.{IfSome};
+ghost use Rattle.rst_pair.specs.declared.query.Query.TheVariants.{LandFree};
+ghost use Rattle.rst_pose.specs.Posing.{IsPosable};
+
+use crate::asks::{bit_at, first_input, no_hops};
 use rst_gate::{Gates, Pattern, free_places};
 use rst_outside::NoMemory;
-use rst_pair::{Pair, Query};
+use rst_pair::{Front, Pair, Query};
 use rst_pose::is_posable;
 use rst_relation::decide_check;
-use rst_value::Tern;
 use rst_verdict::Verdict;
 use std::alloc::Global;
 
@@ -33,7 +36,7 @@ pub(crate) fn is_known(found: Found, cycles: usize) -> bool {
 /// Whether a relation of so many hops signs so many cycles, the first with so many free bits.
 pub(crate) fn is_relation(found: Found, cycles: usize, hops: usize, free: usize) -> bool {
     match found {
-        Found::Relation([c, h, f]) => c == cycles && h == hops && f == free,
+        Found::Relation(counts) => counts[0] == cycles && counts[1] == hops && counts[2] == free,
         _ => false,
     }
 }
@@ -60,11 +63,19 @@ pub(crate) fn is_refuted(found: Found, cycles: usize, word: usize, register: usi
     }
 }
 
-/// The first input bit of the sequence that refutes, and that of its word.
-pub(crate) fn refuting_inputs(found: Found) -> Option<[bool; 2]> {
+/// Whether this is the first input bit of the sequence that is refuted.
+pub(crate) fn starts_with(found: Found, bit: bool) -> bool {
     match found {
-        Found::Refuted(_, inputs, _) => Some(inputs),
-        _ => None,
+        Found::Refuted(_, inputs, _) => inputs[0] == bit,
+        _ => false,
+    }
+}
+
+/// Whether this is the first input bit of the word that refutes.
+pub(crate) fn word_starts_with(found: Found, bit: bool) -> bool {
+    match found {
+        Found::Refuted(_, inputs, _) => inputs[1] == bit,
+        _ => false,
     }
 }
 
@@ -100,11 +111,28 @@ fn found_in(verdict: &Verdict) -> Found {
     }
 }
 
-/// The verdict on the pattern whose cycles have these places, with so many units of work.
+// The pattern, where the circuit and it are within the limits.
+fn within(pair: &Pair, front: &Front, query: Query) -> Option<Pattern>
+    ensures { IfSome result (λ seq. IsPosable pair.now front.now (LandFree seq)) }
+{
+    if !is_posable(pair, front, &query) {
+        return None;
+    }
+    match query {
+        Query::LandFree(seq) => Some(seq),
+        Query::Land(word) => {
+            drop(word);
+            None
+        }
+        Query::Split | Query::Escape | Query::Stuck => None,
+    }
+}
+
+/// The verdict on the pattern, with so many units of work.
 pub(crate) fn check(
     alloc: Global,
     gates: &Gates,
-    places: &[Tern],
+    seq: Pattern,
     budget: u32,
 ) -> Result<Found, NoMemory> {
     let front = no_hops(alloc, gates.states)?;
@@ -112,15 +140,14 @@ pub(crate) fn check(
         left: gates,
         right: gates,
     };
-    let query = Query::LandFree(pattern(alloc, gates.inputs as usize, places)?);
-    if budget > 100_000 || !is_posable(&pair, &front, &query) {
+    if budget > 100_000 {
         return Ok(Found::Other);
     }
-    match query {
-        Query::LandFree(seq) => {
+    match within(&pair, &front, Query::LandFree(seq)) {
+        Some(seq) => {
             let verdict = decide_check(alloc, gates, seq, budget)?;
             Ok(found_in(&verdict))
         }
-        _ => Ok(Found::Other),
+        None => Ok(Found::Other),
     }
 }

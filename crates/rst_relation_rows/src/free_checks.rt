@@ -1,5 +1,8 @@
 // Verdicts on patterns with free bits.
-use crate::checking::{Found, check, is_refuted, is_relation, is_unknown, refuting_inputs};
+use crate::asks::pattern;
+use crate::checking::{
+    Found, check, is_refuted, is_relation, is_unknown, starts_with, word_starts_with,
+};
 use crate::circuits::{guarded, reset_at_once, shift, toggle};
 use rst_outside::NoMemory;
 use rst_value::Tern;
@@ -9,22 +12,22 @@ use std::test::Fail;
 
 fn shifted(alloc: Global, places: &[Tern], budget: u32) -> Result<Found, NoMemory> {
     let gates = shift(alloc)?;
-    check(alloc, &gates, places, budget)
+    check(alloc, &gates, pattern(alloc, 1, places)?, budget)
 }
 
 fn toggled(alloc: Global, places: &[Tern]) -> Result<Found, NoMemory> {
     let gates = toggle(alloc)?;
-    check(alloc, &gates, places, 20_000)
+    check(alloc, &gates, pattern(alloc, 1, places)?, 20_000)
 }
 
 fn held(alloc: Global, places: &[Tern]) -> Result<Found, NoMemory> {
     let gates = reset_at_once(alloc)?;
-    check(alloc, &gates, places, 20_000)
+    check(alloc, &gates, pattern(alloc, 1, places)?, 20_000)
 }
 
 fn guarding(alloc: Global, places: &[Tern]) -> Result<Found, NoMemory> {
     let gates = guarded(alloc)?;
-    check(alloc, &gates, places, 20_000)
+    check(alloc, &gates, pattern(alloc, 6, places)?, 20_000)
 }
 
 // Both states take the same bits. The pattern is signed with its free bits as they are.
@@ -50,7 +53,7 @@ fn a_free_reset_is_refuted(rt: HostRuntime) -> Result<(), Fail> {
     let alloc = rt.alloc();
     let found = toggled(alloc, &[Unknown])?;
     assert!(rt; is_refuted(found, 1, 1, 0));
-    assert!(rt; matches!(refuting_inputs(found), Some([false, _])));
+    assert!(rt; starts_with(found, false));
     Ok(())
 }
 
@@ -59,7 +62,8 @@ fn a_free_reset_at_once_is_refuted(rt: HostRuntime) -> Result<(), Fail> {
     let alloc = rt.alloc();
     let found = held(alloc, &[Unknown])?;
     assert!(rt; is_refuted(found, 1, 1, 0));
-    assert!(rt; matches!(refuting_inputs(found), Some([true, true])));
+    assert!(rt; starts_with(found, true));
+    assert!(rt; word_starts_with(found, true));
     Ok(())
 }
 
