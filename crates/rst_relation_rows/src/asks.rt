@@ -19,11 +19,11 @@ pub(crate) enum Told {
     Unasked,
 }
 
-fn bit_at(bits: &[bool], i: usize) -> bool {
+pub(crate) fn bit_at(bits: &[bool], i: usize) -> bool {
     i < bits.len() && bits[i]
 }
 
-fn first_input(word: &Sequence) -> bool {
+pub(crate) fn first_input(word: &Sequence) -> bool {
     word.len() > 0 && bit_at(word.get(0).as_slice(), 0)
 }
 
@@ -51,8 +51,8 @@ fn told_by(answer: &Decision) -> Told {
     }
 }
 
-// No hop, and no register marked.
-fn no_hops(alloc: Global, count: u32) -> Result<Front, NoMemory> {
+/// No hop, and no register marked.
+pub(crate) fn no_hops(alloc: Global, count: u32) -> Result<Front, NoMemory> {
     let mut equal = Bits::new(alloc);
     for _ in 0..count {
         equal.push(false)?;
@@ -65,11 +65,7 @@ fn no_hops(alloc: Global, count: u32) -> Result<Front, NoMemory> {
 }
 
 /// The pattern whose cycles are these places, so many each.
-pub(crate) fn pattern(
-    alloc: Global,
-    inputs: usize,
-    places: &[Tern],
-) -> Result<Pattern, NoMemory> {
+pub(crate) fn pattern(alloc: Global, inputs: usize, places: &[Tern]) -> Result<Pattern, NoMemory> {
     let mut pattern = Pattern::new(alloc);
     let mut cube = Cube::new(alloc);
     for place in places {

@@ -60,20 +60,30 @@ pub(crate) fn shift(alloc: Global) -> Result<Gates, NoMemory> {
     builder.finish(outs, nexts)
 }
 
-/// Data of four bits beside a bit that says whether they are valid. The first input loads the four
-/// others and makes them valid; without it they stay, and aren't valid. The outputs are the valid
-/// bit and the data that are valid.
+/// A register that holds its value, and that an input of 0 resets at once. It is the output.
+pub(crate) fn reset_at_once(alloc: Global) -> Result<Gates, NoMemory> {
+    let mut builder = GateBuilder::new(alloc, 1, 1)?;
+    let value = builder.mux(plain(1), plain(2), plain(0))?;
+    let outs = vec![in alloc; value]?;
+    let nexts = vec![in alloc; value]?;
+    builder.finish(outs, nexts)
+}
+
+/// Data of four bits beside a bit that says whether they are valid. The second input loads the four
+/// last ones and makes them valid, unless the first input resets the valid bit to 0; without it the
+/// data stay, and aren't valid. The outputs are the valid bit and the data that are valid.
 pub(crate) fn guarded(alloc: Global) -> Result<Gates, NoMemory> {
-    let mut builder = GateBuilder::new(alloc, 5, 5)?;
-    let next_0 = builder.mux(plain(1), plain(2), plain(7))?;
-    let next_1 = builder.mux(plain(1), plain(3), plain(8))?;
-    let next_2 = builder.mux(plain(1), plain(4), plain(9))?;
-    let next_3 = builder.mux(plain(1), plain(5), plain(10))?;
-    let out_0 = builder.and(plain(6), plain(7))?;
-    let out_1 = builder.and(plain(6), plain(8))?;
-    let out_2 = builder.and(plain(6), plain(9))?;
-    let out_3 = builder.and(plain(6), plain(10))?;
-    let outs = vec![in alloc; plain(6), out_0, out_1, out_2, out_3]?;
-    let nexts = vec![in alloc; plain(1), next_0, next_1, next_2, next_3]?;
+    let mut builder = GateBuilder::new(alloc, 6, 5)?;
+    let valid = builder.mux(plain(1), plain(0), plain(2))?;
+    let next_0 = builder.mux(plain(2), plain(3), plain(8))?;
+    let next_1 = builder.mux(plain(2), plain(4), plain(9))?;
+    let next_2 = builder.mux(plain(2), plain(5), plain(10))?;
+    let next_3 = builder.mux(plain(2), plain(6), plain(11))?;
+    let out_0 = builder.and(plain(7), plain(8))?;
+    let out_1 = builder.and(plain(7), plain(9))?;
+    let out_2 = builder.and(plain(7), plain(10))?;
+    let out_3 = builder.and(plain(7), plain(11))?;
+    let outs = vec![in alloc; plain(7), out_0, out_1, out_2, out_3]?;
+    let nexts = vec![in alloc; valid, next_0, next_1, next_2, next_3]?;
     builder.finish(outs, nexts)
 }

@@ -53,7 +53,7 @@ fn toggled(alloc: Global, places: &[Tern], budget: u32) -> Result<Told, NoMemory
 
 fn guarding(alloc: Global, places: &[Tern], budget: u32) -> Result<Told, NoMemory> {
     let gates = guarded(alloc)?;
-    ask(alloc, &gates, pattern(alloc, 5, places)?, budget)
+    ask(alloc, &gates, pattern(alloc, 6, places)?, budget)
 }
 
 // No output reads the register, so that any two states behave the same: signed behind any sequence.
@@ -111,7 +111,17 @@ fn a_budget_of_none_is_unknown(rt: HostRuntime) -> Result<(), Fail> {
 #[test]
 fn guarded_data_are_signed_unloaded(rt: HostRuntime) -> Result<(), Fail> {
     let alloc = rt.alloc();
-    assert!(rt; is_signed(guarding(alloc, &[Zero, Zero, Zero, Zero, Zero], 1000)?, 8));
-    assert!(rt; is_signed(guarding(alloc, &[One, Zero, One, Zero, One], 1000)?, 0));
+    assert!(rt;
+        is_signed(
+            guarding(alloc, &[One, Zero, Zero, Zero, Zero, Zero], 1000)?,
+            8
+        )
+    );
+    assert!(rt;
+        is_signed(
+            guarding(alloc, &[Zero, One, Zero, One, Zero, One], 1000)?,
+            0
+        )
+    );
     Ok(())
 }

@@ -30,7 +30,12 @@ fn a_free_reset_is_refuted_by_a_filling(rt: HostRuntime) -> Result<(), Fail> {
 fn a_free_bit_before_the_reset_is_signed(rt: HostRuntime) -> Result<(), Fail> {
     let alloc = rt.alloc();
     let gates = toggle(alloc)?;
-    assert!(rt; is_signed(ask(alloc, &gates, pattern(alloc, 1, &[Unknown, One])?, 10)?, 0));
+    assert!(rt;
+        is_signed(
+            ask(alloc, &gates, pattern(alloc, 1, &[Unknown, One])?, 10)?,
+            0
+        )
+    );
     Ok(())
 }
 
@@ -40,7 +45,12 @@ fn a_free_bit_before_the_reset_is_signed(rt: HostRuntime) -> Result<(), Fail> {
 fn free_bits_are_the_same_for_both_states(rt: HostRuntime) -> Result<(), Fail> {
     let alloc = rt.alloc();
     let gates = shift(alloc)?;
-    assert!(rt; is_signed(ask(alloc, &gates, pattern(alloc, 1, &[Unknown, Unknown])?, 100)?, 4));
+    assert!(rt;
+        is_signed(
+            ask(alloc, &gates, pattern(alloc, 1, &[Unknown, Unknown])?, 100)?,
+            4
+        )
+    );
     Ok(())
 }
 
@@ -49,9 +59,9 @@ fn free_bits_are_the_same_for_both_states(rt: HostRuntime) -> Result<(), Fail> {
 fn guarded_data_are_signed_with_free_bits(rt: HostRuntime) -> Result<(), Fail> {
     let alloc = rt.alloc();
     let gates = guarded(alloc)?;
-    let data = pattern(alloc, 5, &[Zero, Unknown, Unknown, Unknown, Unknown])?;
+    let data = pattern(alloc, 6, &[One, Zero, Unknown, Unknown, Unknown, Unknown])?;
     assert!(rt; is_signed(ask(alloc, &gates, data, 1000)?, 8));
-    let load = pattern(alloc, 5, &[Unknown, Zero, Zero, One, One])?;
+    let load = pattern(alloc, 6, &[Zero, Unknown, Zero, Zero, One, One])?;
     assert!(rt; is_signed(ask(alloc, &gates, load, 1000)?, 10));
     Ok(())
 }

@@ -2,8 +2,13 @@
 #![tactic(auto)]
 
 mod asks;
+mod checking;
+#[cfg(test)]
+mod checks;
 mod circuits;
 #[cfg(test)]
 mod decisions;
 #[cfg(test)]
 mod fillings;
+#[cfg(test)]
+mod free_checks;
