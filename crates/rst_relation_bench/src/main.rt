@@ -1,8 +1,8 @@
 //! A driver for measurements of the decision by a relation.
 #![tactic(auto)]
 
-use rst_gate::{Bits, Cube, Edge, Gate, Gates, Pattern};
 use rst_early::early;
+use rst_gate::{Bits, Cube, Edge, Gate, Gates, Pattern};
 use rst_pair::{Entry, Journal};
 use rst_relation::{Decision, decide};
 use rst_value::Tern;
@@ -25,7 +25,10 @@ impl Numbers {
 
     fn edge(&mut self) -> Edge {
         let n = self.next();
-        Edge { node: n / 2, inverted: n % 2 == 1 }
+        Edge {
+            node: n / 2,
+            inverted: n % 2 == 1,
+        }
     }
 }
 
@@ -73,7 +76,13 @@ fn gates_of(alloc: Global, from: &mut Numbers) -> io::Result<Gates> {
     for _ in 0..states {
         nexts.push(from.edge())?;
     }
-    Ok(Gates { inputs, states, gates, outs, nexts })
+    Ok(Gates {
+        inputs,
+        states,
+        gates,
+        outs,
+        nexts,
+    })
 }
 
 fn pattern_of(alloc: Global, from: &mut Numbers, inputs: u32) -> io::Result<Pattern> {
@@ -83,7 +92,13 @@ fn pattern_of(alloc: Global, from: &mut Numbers, inputs: u32) -> io::Result<Patt
         let mut places = Vec::new(alloc);
         for _ in 0..inputs {
             let n = from.next();
-            let place = if n == 0 { Tern::Zero } else if n == 1 { Tern::One } else { Tern::Unknown };
+            let place = if n == 0 {
+                Tern::Zero
+            } else if n == 1 {
+                Tern::One
+            } else {
+                Tern::Unknown
+            };
             places.push(place)?;
         }
         let Ok(cube) = Cube::from_slice(alloc, &places) else {
@@ -125,11 +140,27 @@ fn main(rt: HostRuntime) -> io::Result<()> {
     println!(&rt; " ms {took}")?;
     let start = Instant::now(&rt)?;
     match decide(alloc, &gates, &pattern, 20000) {
-        Ok(Decision::Signed { equal: _, blocked: _, split: _, land: _, journal }) => {
+        Ok(
+            Decision::Signed {
+                equal: _,
+                blocked: _,
+                split: _,
+                land: _,
+                journal,
+            },
+        ) => {
             print!(&rt; "SIGNED")?;
             print_journal(&rt, &journal)?;
         }
-        Ok(Decision::Refuted { seq: _, a: _, b: _, word: _, journal }) => {
+        Ok(
+            Decision::Refuted {
+                seq: _,
+                a: _,
+                b: _,
+                word: _,
+                journal,
+            },
+        ) => {
             print!(&rt; "REFUTED")?;
             print_journal(&rt, &journal)?;
         }
