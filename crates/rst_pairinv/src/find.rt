@@ -9,6 +9,7 @@ ghost use Rattle.rst_pairinv.specs.Turns.{IsRefining, IsFresh, IsCasePart, GoesO
 
 use crate::block::{Refining, block};
 use crate::hops::{cycle_of, leaves};
+use crate::kept::Kept;
 use crate::states::{bit_at, joined};
 use crate::turn::turn;
 use rst_clause::Log;
@@ -23,10 +24,10 @@ const DRAWS: u32 = 1024;
 
 // An input and a pair of states, which may split under it.
 #[derive(Drop)]
-struct Guess {
-    input: Bits,
-    left: Bits,
-    right: Bits,
+pub(crate) struct Guess {
+    pub(crate) input: Bits,
+    pub(crate) left: Bits,
+    pub(crate) right: Bits,
 }
 
 // A linear congruential source of bits.
@@ -186,14 +187,27 @@ fn agree(places: &[u32], bits: &[bool]) -> bool {
 pub(crate) struct Finder {
     source: Source,
     known: Known,
+    kept: Box<Kept>,
+    draws: u32,
 }
 
 impl Finder {
-    pub(crate) fn new(alloc: Global) -> Finder {
+    pub(crate) fn new(alloc: Global, pair: &Pair, marks: &[bool]) -> Result<Finder, NoMemory> {
+        let kept = Box::new(alloc, Kept::new(alloc, pair, marks)?)?;
         let source = Source::new();
         let cubes = Vec::new(alloc);
         let known = Known { cubes };
-        Finder { source, known }
+        Ok(Finder {
+            source,
+            known,
+            kept,
+            draws: DRAWS,
+        })
+    }
+
+    // Fewer draws where they found nothing.
+    fn settle(&mut self, found: bool) {
+        self.draws = if found { DRAWS } else { self.draws / 2 };
     }
 
     // A guess that seems to be a case, if this draw is one.
@@ -340,6 +354,32 @@ fn draw(
     Ok(())
 }
 
+// Tries a pair that the kept solver finds, and its mirror where it is a case.
+fn ask_kept(
+    alloc: Global,
+    pair: &Pair,
+    so_far: &mut Refining,
+    finder: &mut Finder,
+    left: u32,
+) -> Result<(), NoMemory>
+    requires at { IsRefining pair.now so_far.old }
+    requires fresh { IsFresh so_far.old.journal }
+    requires marked { AreMarked pair.now so_far.old.front.equal }
+    requires few { length so_far.old.journal < left }
+    requires left { left ≤ 100000 }
+    ensures goes { OnOk result (GoesOn pair.now so_far.old so_far.new) }
+    ensures few { OnOk result (length so_far.new.journal ≤ left) }
+{
+    let found = finder.kept.guess(alloc, so_far.front.blocked.as_slice())?;
+    let Some(guess) = found else {
+        return Ok(());
+    };
+    if try_guess(alloc, pair, so_far, &guess)? {
+        try_mirrored(alloc, pair, so_far, left)?;
+    }
+    Ok(())
+}
+
 // Tries pairs that are drawn, while a unit is left.
 fn find(
     alloc: Global,
@@ -356,7 +396,7 @@ fn find(
     ensures goes { OnOk result (GoesOn pair.now so_far.old so_far.new) }
     ensures few { OnOk result (length so_far.new.journal ≤ left) }
 {
-    'draws: for _ in 0..DRAWS {
+    'draws: for _ in 0..finder.draws {
         if so_far.journal.len() >= left as usize {
             return Ok(());
         }
@@ -390,6 +430,11 @@ pub(crate) fn round(
     let before = so_far.journal.len();
     try_mirrored(alloc, pair, so_far, left)?;
     find(alloc, pair, so_far, finder, left)?;
+    finder.settle(before < so_far.journal.len());
+    if before < so_far.journal.len() {
+        return Ok(None);
+    }
+    ask_kept(alloc, pair, so_far, finder, left)?;
     if before < so_far.journal.len() {
         return Ok(None);
     }

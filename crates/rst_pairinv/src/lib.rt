@@ -5,6 +5,7 @@
 mod block;
 mod find;
 mod hops;
+mod kept;
 mod refining;
 mod states;
 mod turn;

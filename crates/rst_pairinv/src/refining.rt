@@ -104,7 +104,7 @@ pub fn refine(alloc: Global, pair: &Pair, equal: &Bits, left: u32) -> Result<Ref
 {
     are_sides(pair);
     let mut so_far = start(alloc, equal)?;
-    let mut finder = Finder::new(alloc);
+    let mut finder = Finder::new(alloc, pair, equal.as_slice())?;
     'turns: loop {
         if so_far.journal.len() >= left as usize {
             return Ok(spent(so_far));
