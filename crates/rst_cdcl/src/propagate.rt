@@ -97,6 +97,18 @@ fn keep_rest(watches: &mut Watches, lit: u32, from: u32, end: u32, kept: u32) {
     watches.cut(lit, to);
 }
 
+// The highest level of the clause's literals but one.
+#[inline(never)]
+fn highest(assignment: &Assignment, clause: &[u32], but: u32) -> u32 {
+    let mut highest = 0u32;
+    for lit in clause {
+        if *lit != but {
+            highest = highest.max(assignment.level_of(*lit >> 1));
+        }
+    }
+    highest
+}
+
 // Looks at the clauses that watch the opposite of the literal.
 fn visit(
     assignment: &mut Assignment,
@@ -107,6 +119,8 @@ fn visit(
     let list = watches.list(lit);
     let end = list.start.wrapping_add(list.len);
     let falsified = lit ^ 1;
+    let level = assignment.level_of(lit >> 1);
+    let is_last = level >= assignment.level;
     let mut kept = list.start;
     for i in list.start..end {
         let watch = watches.at(i);
@@ -123,7 +137,7 @@ fn visit(
                 keep_rest(watches, lit, i.wrapping_add(1), end, kept);
                 return Ok(Some(Conflict::Binary(falsified, watch.blocker)));
             }
-            assignment.assign(watch.blocker, Reason::Binary(falsified));
+            assignment.assign(watch.blocker, level, Reason::Binary(falsified));
             continue;
         }
         match look_at(
@@ -145,7 +159,12 @@ fn visit(
                 let clause = watch.clause;
                 watches.put(kept, Watch { clause, blocker });
                 kept = kept.wrapping_add(1);
-                assignment.assign(blocker, Reason::Clause(clause));
+                let highest = if is_last {
+                    level
+                } else {
+                    highest(assignment, arena.lits(clause), blocker)
+                };
+                assignment.assign(blocker, highest, Reason::Clause(clause));
             }
             Look::False(blocker) => {
                 let clause = watch.clause;

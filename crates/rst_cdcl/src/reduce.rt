@@ -65,7 +65,10 @@ fn move_clause(
     clause: u32,
 ) -> Result<u32, AllocError> {
     let glue = arena.glue(clause);
-    let place = fresh.push(glue, arena.lits(clause))?.wrapping_add(base);
+    let line = arena.line(clause);
+    let place = fresh
+        .push(glue, line, arena.lits(clause))?
+        .wrapping_add(base);
     arena.set_glue(clause, place);
     Ok(place)
 }

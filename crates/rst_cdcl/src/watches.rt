@@ -156,6 +156,21 @@ impl Watches {
 }
 
 impl Watches {
+    /// The clause does not watch the literal any more.
+    pub fn remove(&mut self, lit: u32, clause: u32) {
+        let list = self.list(lit);
+        let end = list.start.wrapping_add(list.len);
+        for i in list.start..end {
+            if self.at(i).clause == clause {
+                let last = end.wrapping_sub(1);
+                let watch = self.at(last);
+                self.put(i, watch);
+                self.cut(lit, last);
+                return;
+            }
+        }
+    }
+
     /// One more watch of the literal will come, and the pool is empty yet.
     pub fn expect(&mut self, lit: u32) {
         let i = lit as usize;
