@@ -51,6 +51,9 @@ impl Search {
             self.watches.expect(code(lits[0]) ^ 1);
             self.watches.expect(code(lits[1]) ^ 1);
         }
+        if lits.len() == 3 {
+            self.watches.expect(code(lits[2]) ^ 1);
+        }
     }
 
     /// Adds a clause.

@@ -155,6 +155,10 @@ impl Analyzer {
         match assignment.origin(lit >> 1).reason {
             Reason::Decision | Reason::Learnt(_) => Ok(()),
             Reason::Binary(other) => self.analyze_literal(assignment, scores, other),
+            Reason::Ternary(one, other) => {
+                self.analyze_literal(assignment, scores, one)?;
+                self.analyze_literal(assignment, scores, other)
+            }
             Reason::Clause(clause) => self.analyze_clause(assignment, arena, scores, clause, lit),
         }
     }
@@ -171,6 +175,11 @@ impl Analyzer {
             Conflict::Binary(one, other) => {
                 self.analyze_literal(assignment, scores, one)?;
                 self.analyze_literal(assignment, scores, other)
+            }
+            Conflict::Ternary(one, other, third) => {
+                self.analyze_literal(assignment, scores, one)?;
+                self.analyze_literal(assignment, scores, other)?;
+                self.analyze_literal(assignment, scores, third)
             }
             Conflict::Clause(clause) => self.analyze_clause(
                 assignment, arena, scores, clause, NOTHING,
@@ -245,6 +254,10 @@ impl Analyzer {
         match assignment.origin(variable).reason {
             Reason::Decision | Reason::Learnt(_) => Ok(false),
             Reason::Binary(other) => self.may_follow(assignment, other >> 1),
+            Reason::Ternary(one, other) => {
+                let follows = self.may_follow(assignment, one >> 1)?;
+                Ok(follows && self.may_follow(assignment, other >> 1)?)
+            }
             Reason::Clause(clause) => {
                 self.note_line(arena.line(clause))?;
                 for lit in arena.lits(clause) {

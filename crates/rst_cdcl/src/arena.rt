@@ -1,10 +1,13 @@
-// Clauses of three literals or more, laid flat: the number of literals, the glue, where the last
+// Clauses of four literals or more, and those that were learnt of two or more, laid flat: the number of literals, the glue, where the last
 // literal to watch was found, the number in the log, the literals.
 use crate::cells::{narrow, set_word, word};
 use std::alloc::{AllocError, Global};
 
 /// Words before the literals of a clause.
 pub const HEADER: u32 = 4;
+
+/// No clause begins here or behind it.
+pub const MOST: u32 = 0x8000_0000;
 
 /// The clauses. A clause is named by its place.
 #[derive(Drop)]
@@ -20,9 +23,13 @@ impl Arena {
         }
     }
 
-    /// One more clause, of glue 0 and no line if it was given. Its place.
+    /// One more clause, of glue 0 and no line if it was given. Its place; AllocError where places
+    /// are used up.
     pub fn push(&mut self, glue: u32, line: u32, lits: &[u32]) -> Result<u32, AllocError> {
         let place = narrow(self.words.len());
+        if place >= MOST {
+            return Err(AllocError);
+        }
         self.words.push(narrow(lits.len()))?;
         self.words.push(glue)?;
         self.words.push(2)?;

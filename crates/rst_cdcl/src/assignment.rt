@@ -18,6 +18,8 @@ pub enum Reason {
     Learnt(u32),
     /// The other literal of a clause of two is false.
     Binary(u32),
+    /// The other literals of a clause of three are false.
+    Ternary(u32, u32),
     /// All other literals of the clause at this place are false.
     Clause(u32),
 }

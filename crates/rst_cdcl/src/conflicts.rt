@@ -68,6 +68,17 @@ impl Search {
                     second: one.min(other),
                 })
             }
+            Conflict::Ternary(one, other, third) => {
+                let one = self.assignment.level_of(one >> 1);
+                let other = self.assignment.level_of(other >> 1);
+                let third = self.assignment.level_of(third >> 1);
+                let high = one.max(other);
+                let low = one.min(other);
+                Ok(Top {
+                    level: high.max(third),
+                    second: high.min(low.max(third)),
+                })
+            }
             Conflict::Clause(clause) => Ok(Top {
                 level: self.raise(clause, 0)?,
                 second: self.raise(clause, 1)?,
@@ -84,6 +95,15 @@ impl Search {
                     (one, Reason::Binary(other))
                 } else {
                     (other, Reason::Binary(one))
+                }
+            }
+            Conflict::Ternary(one, other, third) => {
+                if self.assignment.level_of(one >> 1) == top.level {
+                    (one, Reason::Ternary(other, third))
+                } else if self.assignment.level_of(other >> 1) == top.level {
+                    (other, Reason::Ternary(one, third))
+                } else {
+                    (third, Reason::Ternary(one, other))
                 }
             }
             Conflict::Clause(clause) => {

@@ -21,6 +21,10 @@ impl Search {
             Reason::Decision => core.push(number(lit))?,
             Reason::Learnt(_) => {}
             Reason::Binary(other) => self.meet(other)?,
+            Reason::Ternary(one, other) => {
+                self.meet(one)?;
+                self.meet(other)?;
+            }
             Reason::Clause(clause) => {
                 self.analyzer.note_line(self.arena.line(clause))?;
                 for k in 0..self.arena.size(clause) {

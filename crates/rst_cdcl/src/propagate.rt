@@ -2,13 +2,14 @@
 use crate::arena::{Arena, HEADER};
 use crate::assignment::{Assignment, FALSE, Reason, TRUE};
 use crate::cells::{byte, narrow, set_word, word};
-use crate::watches::{BINARY, Watch, Watches};
+use crate::watches::{BINARY, TERNARY, Watch, Watches};
 use std::alloc::AllocError;
 
 /// A clause that is false.
 #[derive(Clone, Copy)]
 pub enum Conflict {
     Binary(u32, u32),
+    Ternary(u32, u32, u32),
     Clause(u32),
 }
 
@@ -138,6 +139,28 @@ fn visit(
                 return Ok(Some(Conflict::Binary(falsified, watch.blocker)));
             }
             assignment.assign(watch.blocker, level, Reason::Binary(falsified));
+            continue;
+        }
+        if watch.clause >= TERNARY {
+            watches.put(kept, watch);
+            kept = kept.wrapping_add(1);
+            let blocker = watch.blocker;
+            let third = watch.clause ^ TERNARY;
+            let other = assignment.value(third);
+            if other == TRUE || (value != FALSE && other != FALSE) {
+                continue;
+            }
+            if value == FALSE && other == FALSE {
+                keep_rest(watches, lit, i.wrapping_add(1), end, kept);
+                return Ok(Some(Conflict::Ternary(falsified, blocker, third)));
+            }
+            let (implied, against) = if value == FALSE {
+                (third, blocker)
+            } else {
+                (blocker, third)
+            };
+            let highest = level.max(assignment.level_of(against >> 1));
+            assignment.assign(implied, highest, Reason::Ternary(falsified, against));
             continue;
         }
         match look_at(

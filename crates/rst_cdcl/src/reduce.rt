@@ -2,7 +2,7 @@
 use crate::arena::{Arena, HEADER};
 use crate::assignment::{Assignment, Origin, Reason, TRUE};
 use crate::cells::{narrow, word};
-use crate::watches::{BINARY, List, Watch, Watches};
+use crate::watches::{List, TERNARY, Watch, Watches};
 use std::alloc::{AllocError, Global};
 
 /// The glue of a clause that is dropped.
@@ -111,7 +111,7 @@ fn moved(arena: &Arena, base: u32, clause: u32) -> Option<u32> {
 // The watch at its clause's new place, if that is not dropped.
 fn moved_watch(arena: &Arena, base: u32, watch: Watch) -> Option<Watch> {
     let blocker = watch.blocker;
-    if watch.clause == BINARY {
+    if watch.clause >= TERNARY {
         return Some(watch);
     }
     let clause = moved(arena, base, watch.clause)?;

@@ -9,7 +9,7 @@ use crate::reduce::reduce;
 use crate::restart::Luby;
 use crate::scores::Scores;
 use crate::uses::Uses;
-use crate::watches::{BINARY, Watch, Watches};
+use crate::watches::{BINARY, TERNARY, Watch, Watches};
 use std::alloc::{AllocError, Global};
 
 /// Learnt clauses at which the first half is dropped, and by how much that grows.
@@ -112,6 +112,13 @@ impl Search {
         self.watches.push(second ^ 1, Watch { clause, blocker })
     }
 
+    // One literal watches a clause of three.
+    fn watch_ternary(&mut self, lit: u32, other: u32, third: u32) -> Result<(), AllocError> {
+        let clause = TERNARY | third;
+        let blocker = other;
+        self.watches.push(lit ^ 1, Watch { clause, blocker })
+    }
+
     /// Adds a clause of two literals or more, with its number in the log, from 1, or 0. What makes its first literal true once all others
     /// are false.
     pub fn attach(&mut self, glue: u32, line: u32, lits: &[u32]) -> Result<Reason, AllocError> {
@@ -120,6 +127,13 @@ impl Search {
         if lits.len() == 2 && line == 0 {
             self.watch(BINARY, first, second)?;
             return Ok(Reason::Binary(second));
+        }
+        if lits.len() == 3 && line == 0 {
+            let third = word(lits, 2);
+            self.watch_ternary(first, second, third)?;
+            self.watch_ternary(second, third, first)?;
+            self.watch_ternary(third, first, second)?;
+            return Ok(Reason::Ternary(second, third));
         }
         let clause = self.arena.push(glue, line, lits)?;
         self.watch(clause, first, second)?;
@@ -147,6 +161,11 @@ impl Search {
             Conflict::Binary(one, other) => {
                 self.analyzer.note_root(one >> 1)?;
                 self.analyzer.note_root(other >> 1)?;
+            }
+            Conflict::Ternary(one, other, third) => {
+                self.analyzer.note_root(one >> 1)?;
+                self.analyzer.note_root(other >> 1)?;
+                self.analyzer.note_root(third >> 1)?;
             }
             Conflict::Clause(clause) => {
                 self.analyzer.note_line(self.arena.line(clause))?;
@@ -270,8 +289,8 @@ impl Search {
     // Decides the literal.
     fn decide(&mut self, lit: u32) -> Result<Next, AllocError> {
         self.assignment.open_level()?;
-        self.assignment
-            .assign(lit, self.assignment.level, Reason::Decision);
+        let level = self.assignment.level;
+        self.assignment.assign(lit, level, Reason::Decision);
         Ok(Next::Decided)
     }
 

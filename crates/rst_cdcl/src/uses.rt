@@ -70,6 +70,10 @@ impl Needs {
                 Reason::Decision => {}
                 Reason::Learnt(line) => self.need(code_of_line(line))?,
                 Reason::Binary(other) => self.need(code_of_variable(other >> 1))?,
+                Reason::Ternary(one, other) => {
+                    self.need(code_of_variable(one >> 1))?;
+                    self.need(code_of_variable(other >> 1))?;
+                }
                 Reason::Clause(clause) => self.need_clause(arena, clause)?,
             }
         }
