@@ -1,5 +1,5 @@
 // Clauses are added while no decision stands.
-use crate::assignment::{OPEN, Reason, TRUE};
+use crate::assignment::{FALSE, OPEN, Reason, TRUE};
 use crate::cells::{byte, code};
 use crate::search::Search;
 use std::alloc::AllocError;
@@ -18,6 +18,9 @@ impl Search {
             if variable >= self.assignment.vars || value == TRUE || (met != 0 && met != sign) {
                 return Ok(None);
             }
+            if value == FALSE && self.log.len() > 0 {
+                self.uses.push_root(variable)?;
+            }
             if value == OPEN && met == 0 {
                 self.analyzer.meet_as(variable, sign)?;
                 kept.push(lit)?;
@@ -32,12 +35,12 @@ impl Search {
             return self.refute();
         }
         if lits.len() > 1 {
-            self.attach(0, lits)?;
+            self.attach(0, 0, lits)?;
             return Ok(());
         }
-        self.assignment.assign(lits[0], Reason::Decision);
-        if self.propagate()?.is_some() {
-            self.refute()?;
+        self.assignment.assign(lits[0], 0, Reason::Decision);
+        if let Some(conflict) = self.propagate()? {
+            self.refute_by(conflict)?;
         }
         Ok(())
     }
@@ -47,6 +50,9 @@ impl Search {
         if lits.len() > 1 {
             self.watches.expect(code(lits[0]) ^ 1);
             self.watches.expect(code(lits[1]) ^ 1);
+        }
+        if lits.len() == 3 {
+            self.watches.expect(code(lits[2]) ^ 1);
         }
     }
 

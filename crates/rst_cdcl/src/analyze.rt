@@ -5,6 +5,7 @@ use crate::assignment::{Assignment, Reason};
 use crate::cells::{byte, narrow, set_byte, set_word, word};
 use crate::propagate::Conflict;
 use crate::scores::Scores;
+use crate::uses::{code_of_line, code_of_variable};
 use std::alloc::{AllocError, Global};
 
 /// The most literals that are looked at to drop one.
@@ -21,6 +22,8 @@ pub struct Analyzer {
     pub seen_list: Vec<u32>,
     /// The learnt clause.
     pub learnt: Vec<u32>,
+    /// What it was derived from.
+    pub uses: Vec<u32>,
     stack: Vec<u32>,
     /// By level, the last conflict at which it was met.
     stamps: Vec<u32>,
@@ -51,6 +54,7 @@ impl Analyzer {
             seen: vec![in alloc; 0u8; slots]?,
             seen_list: Vec::new(alloc),
             learnt: Vec::new(alloc),
+            uses: Vec::new(alloc),
             stack: Vec::new(alloc),
             stamps: vec![in alloc; 0u32; slots + 1]?,
             stamp: 0,
@@ -73,6 +77,24 @@ impl Analyzer {
         Ok(())
     }
 
+    /// A clause of the log, by its number from 1, is used.
+    #[inline(always)]
+    pub fn note_line(&mut self, line: u32) -> Result<(), AllocError> {
+        if line != 0 {
+            self.uses.push(code_of_line(line.wrapping_sub(1)))?;
+        }
+        Ok(())
+    }
+
+    /// The value of a variable that no decision led to is used.
+    pub fn note_root(&mut self, variable: u32) -> Result<(), AllocError> {
+        if byte(&self.seen, variable) == 0 {
+            self.meet(variable)?;
+            self.uses.push(code_of_variable(variable))?;
+        }
+        Ok(())
+    }
+
     /// No variable is met any more.
     pub fn forget(&mut self) {
         unmark(&mut self.seen, &self.seen_list);
@@ -88,11 +110,14 @@ impl Analyzer {
     ) -> Result<(), AllocError> {
         let variable = lit >> 1;
         let level = assignment.level_of(variable);
-        if byte(&self.seen, variable) != 0 || level == 0 {
+        if byte(&self.seen, variable) != 0 {
             return Ok(());
         }
+        if level == 0 {
+            return self.note_root(variable);
+        }
         self.meet(variable)?;
-        scores.bump(variable);
+        scores.bump(variable)?;
         if level >= assignment.level {
             self.open = self.open.wrapping_add(1);
         } else {
@@ -110,6 +135,7 @@ impl Analyzer {
         clause: u32,
         but: u32,
     ) -> Result<(), AllocError> {
+        self.note_line(arena.line(clause))?;
         for lit in arena.lits(clause) {
             if *lit != but {
                 self.analyze_literal(assignment, scores, *lit)?;
@@ -127,8 +153,12 @@ impl Analyzer {
         lit: u32,
     ) -> Result<(), AllocError> {
         match assignment.origin(lit >> 1).reason {
-            Reason::Decision => Ok(()),
+            Reason::Decision | Reason::Learnt(_) => Ok(()),
             Reason::Binary(other) => self.analyze_literal(assignment, scores, other),
+            Reason::Ternary(one, other) => {
+                self.analyze_literal(assignment, scores, one)?;
+                self.analyze_literal(assignment, scores, other)
+            }
             Reason::Clause(clause) => self.analyze_clause(assignment, arena, scores, clause, lit),
         }
     }
@@ -146,6 +176,11 @@ impl Analyzer {
                 self.analyze_literal(assignment, scores, one)?;
                 self.analyze_literal(assignment, scores, other)
             }
+            Conflict::Ternary(one, other, third) => {
+                self.analyze_literal(assignment, scores, one)?;
+                self.analyze_literal(assignment, scores, other)?;
+                self.analyze_literal(assignment, scores, third)
+            }
             Conflict::Clause(clause) => self.analyze_clause(
                 assignment, arena, scores, clause, NOTHING,
             ),
@@ -161,7 +196,7 @@ impl Analyzer {
     ) -> Result<(), AllocError> {
         for p in (0..assignment.count).rev() {
             let lit = word(&assignment.trail, p);
-            if byte(&self.seen, lit >> 1) == 0 {
+            if byte(&self.seen, lit >> 1) == 0 || assignment.level_of(lit >> 1) < assignment.level {
                 continue;
             }
             self.open = self.open.wrapping_sub(1);
@@ -192,7 +227,11 @@ impl Analyzer {
     #[inline(always)]
     fn may_follow(&mut self, assignment: &Assignment, variable: u32) -> Result<bool, AllocError> {
         let origin = assignment.origin(variable);
-        if byte(&self.seen, variable) != 0 || origin.level == 0 {
+        if byte(&self.seen, variable) != 0 {
+            return Ok(true);
+        }
+        if origin.level == 0 {
+            self.note_root(variable)?;
             return Ok(true);
         }
         if matches!(origin.reason, Reason::Decision)
@@ -213,9 +252,14 @@ impl Analyzer {
         variable: u32,
     ) -> Result<bool, AllocError> {
         match assignment.origin(variable).reason {
-            Reason::Decision => Ok(false),
+            Reason::Decision | Reason::Learnt(_) => Ok(false),
             Reason::Binary(other) => self.may_follow(assignment, other >> 1),
+            Reason::Ternary(one, other) => {
+                let follows = self.may_follow(assignment, one >> 1)?;
+                Ok(follows && self.may_follow(assignment, other >> 1)?)
+            }
             Reason::Clause(clause) => {
+                self.note_line(arena.line(clause))?;
                 for lit in arena.lits(clause) {
                     if *lit >> 1 != variable && !self.may_follow(assignment, *lit >> 1)? {
                         return Ok(false);
@@ -260,8 +304,10 @@ impl Analyzer {
         for k in 1..narrow(self.learnt.len()) {
             let lit = word(&self.learnt, k);
             let before = self.seen_list.len();
+            let used = self.uses.len();
             if !self.is_redundant(assignment, arena, lit >> 1)? {
                 self.forget_since(before);
+                self.uses.truncate(used);
                 set_word(&mut self.learnt, kept, lit);
                 kept = kept.wrapping_add(1);
             }
@@ -297,6 +343,7 @@ impl Analyzer {
         conflict: Conflict,
     ) -> Result<Learnt, AllocError> {
         self.open = 0;
+        self.uses.clear();
         self.learnt.clear();
         self.learnt.push(0)?;
         self.analyze_conflict(assignment, arena, scores, conflict)?;

@@ -14,8 +14,12 @@ pub const FALSE: u8 = 2;
 pub enum Reason {
     /// It was decided, or given.
     Decision,
+    /// It is the clause of this number in the log.
+    Learnt(u32),
     /// The other literal of a clause of two is false.
     Binary(u32),
+    /// The other literals of a clause of three are false.
+    Ternary(u32, u32),
     /// All other literals of the clause at this place are false.
     Clause(u32),
 }
@@ -107,12 +111,11 @@ impl Assignment {
         self.origin(variable).level
     }
 
-    /// The literal stands from now on.
+    /// The literal stands from now on, on a level.
     #[inline(always)]
-    pub fn assign(&mut self, lit: u32, reason: Reason) {
+    pub fn assign(&mut self, lit: u32, level: u32, reason: Reason) {
         set_byte(&mut self.values, lit, TRUE);
         set_byte(&mut self.values, lit ^ 1, FALSE);
-        let level = self.level;
         let i = (lit >> 1) as usize;
         if i < self.origins.len() {
             self.origins[i] = Origin { level, reason };

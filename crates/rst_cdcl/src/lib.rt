@@ -10,14 +10,17 @@ mod analyze;
 mod arena;
 mod assignment;
 mod cells;
+mod conflicts;
 mod failed;
 mod log;
 mod propagate;
+mod queue;
 mod reduce;
 mod restart;
 mod scores;
 mod search;
 mod solver;
+mod uses;
 mod watches;
 
 pub use log::Log;

@@ -28,6 +28,13 @@ impl Log {
         Ok(())
     }
 
+    // One more clause, of literals by their numbers.
+    pub(crate) fn push_numbers(&mut self, clause: &[i32]) -> Result<(), AllocError> {
+        self.lits.extend_from_slice(clause)?;
+        self.ends.push(self.lits.len())?;
+        Ok(())
+    }
+
     /// The number of clauses.
     pub fn len(&self) -> usize {
         self.ends.len()

@@ -2,13 +2,14 @@
 use crate::arena::{Arena, HEADER};
 use crate::assignment::{Assignment, FALSE, Reason, TRUE};
 use crate::cells::{byte, narrow, set_word, word};
-use crate::watches::{BINARY, Watch, Watches};
+use crate::watches::{BINARY, TERNARY, Watch, Watches};
 use std::alloc::AllocError;
 
 /// A clause that is false.
 #[derive(Clone, Copy)]
 pub enum Conflict {
     Binary(u32, u32),
+    Ternary(u32, u32, u32),
     Clause(u32),
 }
 
@@ -97,6 +98,18 @@ fn keep_rest(watches: &mut Watches, lit: u32, from: u32, end: u32, kept: u32) {
     watches.cut(lit, to);
 }
 
+// The highest level of the clause's literals but one.
+#[inline(never)]
+fn highest(assignment: &Assignment, clause: &[u32], but: u32) -> u32 {
+    let mut highest = 0u32;
+    for lit in clause {
+        if *lit != but {
+            highest = highest.max(assignment.level_of(*lit >> 1));
+        }
+    }
+    highest
+}
+
 // Looks at the clauses that watch the opposite of the literal.
 fn visit(
     assignment: &mut Assignment,
@@ -107,6 +120,8 @@ fn visit(
     let list = watches.list(lit);
     let end = list.start.wrapping_add(list.len);
     let falsified = lit ^ 1;
+    let level = assignment.level_of(lit >> 1);
+    let is_last = level >= assignment.level;
     let mut kept = list.start;
     for i in list.start..end {
         let watch = watches.at(i);
@@ -123,7 +138,29 @@ fn visit(
                 keep_rest(watches, lit, i.wrapping_add(1), end, kept);
                 return Ok(Some(Conflict::Binary(falsified, watch.blocker)));
             }
-            assignment.assign(watch.blocker, Reason::Binary(falsified));
+            assignment.assign(watch.blocker, level, Reason::Binary(falsified));
+            continue;
+        }
+        if watch.clause >= TERNARY {
+            watches.put(kept, watch);
+            kept = kept.wrapping_add(1);
+            let blocker = watch.blocker;
+            let third = watch.clause ^ TERNARY;
+            let other = assignment.value(third);
+            if other == TRUE || (value != FALSE && other != FALSE) {
+                continue;
+            }
+            if value == FALSE && other == FALSE {
+                keep_rest(watches, lit, i.wrapping_add(1), end, kept);
+                return Ok(Some(Conflict::Ternary(falsified, blocker, third)));
+            }
+            let (implied, against) = if value == FALSE {
+                (third, blocker)
+            } else {
+                (blocker, third)
+            };
+            let highest = level.max(assignment.level_of(against >> 1));
+            assignment.assign(implied, highest, Reason::Ternary(falsified, against));
             continue;
         }
         match look_at(
@@ -145,7 +182,12 @@ fn visit(
                 let clause = watch.clause;
                 watches.put(kept, Watch { clause, blocker });
                 kept = kept.wrapping_add(1);
-                assignment.assign(blocker, Reason::Clause(clause));
+                let highest = if is_last {
+                    level
+                } else {
+                    highest(assignment, arena.lits(clause), blocker)
+                };
+                assignment.assign(blocker, highest, Reason::Clause(clause));
             }
             Look::False(blocker) => {
                 let clause = watch.clause;

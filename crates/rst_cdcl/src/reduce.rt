@@ -2,7 +2,7 @@
 use crate::arena::{Arena, HEADER};
 use crate::assignment::{Assignment, Origin, Reason, TRUE};
 use crate::cells::{narrow, word};
-use crate::watches::{BINARY, List, Watch, Watches};
+use crate::watches::{List, TERNARY, Watch, Watches};
 use std::alloc::{AllocError, Global};
 
 /// The glue of a clause that is dropped.
@@ -65,7 +65,10 @@ fn move_clause(
     clause: u32,
 ) -> Result<u32, AllocError> {
     let glue = arena.glue(clause);
-    let place = fresh.push(glue, arena.lits(clause))?.wrapping_add(base);
+    let line = arena.line(clause);
+    let place = fresh
+        .push(glue, line, arena.lits(clause))?
+        .wrapping_add(base);
     arena.set_glue(clause, place);
     Ok(place)
 }
@@ -108,7 +111,7 @@ fn moved(arena: &Arena, base: u32, clause: u32) -> Option<u32> {
 // The watch at its clause's new place, if that is not dropped.
 fn moved_watch(arena: &Arena, base: u32, watch: Watch) -> Option<Watch> {
     let blocker = watch.blocker;
-    if watch.clause == BINARY {
+    if watch.clause >= TERNARY {
         return Some(watch);
     }
     let clause = moved(arena, base, watch.clause)?;

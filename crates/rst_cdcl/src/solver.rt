@@ -63,6 +63,11 @@ impl Solver {
         &self.search.log
     }
 
+    /// The clauses of the log that its last one needs, by the search's own account, and itself.
+    pub fn trimmed_log(&self) -> Result<Log, AllocError> {
+        self.search.trimmed_log()
+    }
+
     /// How many conflicts were learnt from.
     pub fn conflicts(&self) -> u64
         ensures { result ≡ self.now.conflicts }
@@ -124,16 +129,21 @@ impl Solver {
         let steps = self.search.steps(assumptions.len(), conflicts);
         for _ in 0..steps {
             if let Some(conflict) = self.search.propagate()? {
-                if self.search.is_at_root() {
-                    self.search.refute()?;
+                let top = self.search.top_of(conflict)?;
+                if top.level == 0 {
+                    self.search.refute_by(conflict)?;
                     return Ok(Outcome::Refuted(Vec::new(self.alloc)));
+                }
+                if top.second < top.level {
+                    self.search.turn(conflict, top);
+                    continue;
                 }
                 if learnt >= conflicts {
                     return Ok(Outcome::GaveUp);
                 }
                 learnt += 1;
                 self.conflicts = self.conflicts.saturating_add(1);
-                self.search.analyze(conflict)?;
+                self.search.analyze(conflict, top.level, assumptions.len())?;
                 continue;
             }
             match self.search.next(assumptions)? {

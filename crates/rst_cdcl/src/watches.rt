@@ -5,6 +5,9 @@ use std::alloc::{AllocError, Global};
 /// In place of a clause: the blocker is the one other literal.
 pub const BINARY: u32 = 0xFFFF_FFFF;
 
+/// Added to a literal in place of a clause: a clause of three, which all of its literals watch.
+pub const TERNARY: u32 = 0x8000_0000;
+
 /// A clause that watches a literal, with another of its literals.
 #[derive(Clone, Copy)]
 pub struct Watch {
@@ -111,6 +114,9 @@ impl Watches {
     fn move_list(&mut self, lit: u32, room: u32) -> Result<(), AllocError> {
         let list = self.list(lit);
         let start = narrow(self.pool.len());
+        if start.checked_add(room).is_none() {
+            return Err(AllocError);
+        }
         for k in 0..room {
             let watch = if k < list.len {
                 self.at(list.start.wrapping_add(k))
@@ -156,6 +162,21 @@ impl Watches {
 }
 
 impl Watches {
+    /// The clause does not watch the literal any more.
+    pub fn remove(&mut self, lit: u32, clause: u32) {
+        let list = self.list(lit);
+        let end = list.start.wrapping_add(list.len);
+        for i in list.start..end {
+            if self.at(i).clause == clause {
+                let last = end.wrapping_sub(1);
+                let watch = self.at(last);
+                self.put(i, watch);
+                self.cut(lit, last);
+                return;
+            }
+        }
+    }
+
     /// One more watch of the literal will come, and the pool is empty yet.
     pub fn expect(&mut self, lit: u32) {
         let i = lit as usize;
@@ -175,7 +196,10 @@ impl Watches {
                 room,
             } = self.list(lit);
             self.set_list(lit, List { start, len, room });
-            start = start.wrapping_add(room);
+            let Some(end) = start.checked_add(room) else {
+                return Err(AllocError);
+            };
+            start = end;
         }
         self.pool = vec![in self.alloc; NO_WATCH; start as usize]?;
         Ok(())

@@ -103,10 +103,13 @@ pub fn find(alloc: Global, clauses: &Clauses, left: u32) -> Result<Found, NoMemo
     let conflicts = CONFLICTS * (left as u64);
     match solver.solve(&[], conflicts)? {
         Outcome::Model(values) => Ok(Found::Model(values)),
-        Outcome::Refuted(_) => match log_of(alloc, solver.log())? {
-            Some(log) => Ok(Found::Refuted(log)),
-            None => Ok(Found::Nothing),
-        },
+        Outcome::Refuted(_) => {
+            let needed = solver.trimmed_log()?;
+            match log_of(alloc, &needed)? {
+                Some(log) => Ok(Found::Refuted(log)),
+                None => Ok(Found::Nothing),
+            }
+        }
         Outcome::GaveUp => Ok(Found::Nothing),
     }
 }

@@ -7,7 +7,7 @@ ghost use Rattle.rst_clause.specs.Queue.{IsFalseAt};
 ghost use Rattle.rst_watch.specs.Looks.{IsOther, AreFalseBut};
 ghost use Rattle.rst_watch.specs.Watching.{IsWatching, IsSame, IsOf, Visits, HoldWhereWatched, watch_of};
 
-use crate::look::{Seen, look};
+use crate::look::another;
 use crate::numbers::place_of;
 use crate::state::{State, Watch, note};
 use rst_clause::Lit;
@@ -81,10 +81,9 @@ fn visit_pair(s: &mut State, i: usize, lit: Lit, other: Lit) -> Result<Visited, 
     if s.trail.has(other) {
         return Ok(Visited::Kept);
     }
-    match look(&s.trail, s.store.get(i), other) {
-        Seen::True => Ok(Visited::Kept),
-        Seen::Open(new) => watch(s, i, lit, other, new),
-        Seen::Last => imply(s, i, lit, other),
+    match another(&s.trail, s.store.get(i), s.done, other) {
+        Some(new) => watch(s, i, lit, other, new),
+        None => imply(s, i, lit, other),
     }
 }
 

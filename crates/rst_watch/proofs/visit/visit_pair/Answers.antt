@@ -6,8 +6,5 @@ use Rattle.rst_watch.proofs.visit.visit_pair.Goals as goal
 pub returns-then-has-clause-grows : goal.returns-then-has-clause-grows
 returns-then-has-clause-grows c = same
 
-pub returns-in-True-clause-grows : goal.returns-in-True-clause-grows
-returns-in-True-clause-grows c = same
-
-pub returns-in-Open-clause-grows : goal.returns-in-Open-clause-grows
-returns-in-Open-clause-grows c = subst (λ (u : Trail'). Grows c.args.s.now.store c.args.s.now.trail u) (sym c.watch.ensures.trail) same
+pub returns-in-Some-clause-grows : goal.returns-in-Some-clause-grows
+returns-in-Some-clause-grows c = subst (λ (u : Trail'). Grows c.args.s.now.store c.args.s.now.trail u) (sym c.watch.ensures.trail) same
