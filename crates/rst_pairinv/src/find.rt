@@ -19,8 +19,10 @@ use rst_pair::{Entry, Hop, Journal, Pair, in_relation};
 use rst_value::Tern;
 use std::alloc::Global;
 
-// How many pairs are drawn before a question.
+// How many pairs are drawn at once, and of how many of them a case makes it worth to draw more.
 const DRAWS: u32 = 1024;
+
+const WORTH: usize = 64;
 
 // An input and a pair of states, which may split under it.
 #[derive(Drop)]
@@ -205,9 +207,11 @@ impl Finder {
         })
     }
 
-    // Fewer draws where they found nothing.
-    fn settle(&mut self, found: bool) {
-        self.draws = if found { DRAWS } else { self.draws / 2 };
+    // No more draws where they found little.
+    fn settle(&mut self, found: usize) {
+        if found < WORTH {
+            self.draws = 0;
+        }
     }
 
     // A guess that seems to be a case, if this draw is one.
@@ -370,7 +374,9 @@ fn ask_kept(
     ensures goes { OnOk result (GoesOn pair.now so_far.old so_far.new) }
     ensures few { OnOk result (length so_far.new.journal ≤ left) }
 {
-    let found = finder.kept.guess(alloc, so_far.front.blocked.as_slice())?;
+    let found = finder
+        .kept
+        .guess(alloc, so_far.front.blocked.as_slice(), left)?;
     let Some(guess) = found else {
         return Ok(());
     };
@@ -430,7 +436,7 @@ pub(crate) fn round(
     let before = so_far.journal.len();
     try_mirrored(alloc, pair, so_far, left)?;
     find(alloc, pair, so_far, finder, left)?;
-    finder.settle(before < so_far.journal.len());
+    finder.settle(so_far.journal.len().saturating_sub(before));
     if before < so_far.journal.len() {
         return Ok(None);
     }
@@ -438,5 +444,6 @@ pub(crate) fn round(
     if before < so_far.journal.len() {
         return Ok(None);
     }
-    turn(alloc, pair, so_far, left)
+    let lines = finder.kept.lines(alloc, so_far.front.blocked.as_slice())?;
+    turn(alloc, pair, so_far, left, &lines)
 }

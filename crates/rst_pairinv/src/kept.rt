@@ -7,11 +7,12 @@ use rst_cdcl::{Outcome, Solver};
 use rst_gate::{Bits, Edge, Gate, Gates};
 use rst_outside::NoMemory;
 use rst_pair::{Hop, Pair};
+use rst_solve::Draft;
 use rst_value::Tern;
 use std::alloc::Global;
 
-// Conflicts that a question may take.
-const CONFLICTS: u64 = 1000;
+// Conflicts that all questions may take together, for each unit of work.
+const CONFLICTS: u64 = 4;
 
 fn not(lit: u32) -> u32 {
     if lit % 2 == 0 { lit + 1 } else { lit - 1 }
@@ -238,6 +239,107 @@ fn room(gates: &Gates) -> u32 {
     few.saturating_add(count_of(gates.outs.as_slice(), gates.gates.as_slice()))
 }
 
+fn known_count(cube: &[Tern]) -> u32 {
+    let mut count = 0u32;
+    for place in cube {
+        match place {
+            Tern::Zero | Tern::One => count = count.saturating_add(1),
+            Tern::Unknown => {}
+        }
+    }
+    count
+}
+
+// A gate that both sides share, by what the posed question calls it on each, and the first of what it
+// reads where it is no conjunction.
+#[derive(Clone, Copy)]
+struct Twin {
+    left: u32,
+    right: u32,
+    reads: Option<u32>,
+}
+
+// What the posed question calls the variables: literals, by the variable's number. It numbers inputs,
+// left registers, right ones that aren't marked, the constant, left gates and right gates.
+#[derive(Drop)]
+struct Names {
+    lits: Vec<u32>,
+    twins: Vec<Twin>,
+    // how many variables those are
+    count: u32,
+}
+
+impl Names {
+    fn set(&mut self, lit: u32, variable: u32) {
+        let place = (lit / 2) as usize;
+        if place < self.lits.len() {
+            self.lits[place] = variable.saturating_mul(2);
+        }
+    }
+
+    fn of(&self, lit: u32) -> u32 {
+        let name = lit_at(self.lits.as_slice(), (lit / 2) as usize);
+        if lit % 2 == 0 { name } else { not(name) }
+    }
+
+    // Calls each of the literals by the next variable.
+    fn give(&mut self, lits: &[u32]) {
+        for lit in lits {
+            self.count = self.count.saturating_add(1);
+            self.set(*lit, self.count);
+        }
+    }
+
+    // Calls the registers that aren't shared by the next variables.
+    fn give_open(&mut self, left: &[u32], right: &[u32]) {
+        for i in 0..right.len() {
+            if right[i] != lit_at(left, i) {
+                self.count = self.count.saturating_add(1);
+                self.set(right[i], self.count);
+            }
+        }
+    }
+
+    // Calls the right side's gates by the next variables, but for shared ones.
+    fn give_right(&mut self, gates: &[Gate], left: &[u32], right: &[u32]) -> Result<(), NoMemory> {
+        let first = right.len().saturating_sub(gates.len());
+        for i in 0..gates.len() {
+            self.count = self.count.saturating_add(1);
+            let lit = lit_at(right, first.saturating_add(i));
+            if lit == lit_at(left, first.saturating_add(i)) {
+                let reads = match gates[i] {
+                    Gate::And(_, _) => None,
+                    Gate::Xor(a, _) => Some(self.of(lit_of(left, a))),
+                    Gate::Mux(a, _, _) => Some(self.of(lit_of(left, a))),
+                };
+                let twin = Twin {
+                    left: self.of(lit),
+                    right: self.count.saturating_mul(2),
+                    reads,
+                };
+                self.twins.push(twin)?;
+            } else {
+                self.set(lit, self.count);
+            }
+        }
+        Ok(())
+    }
+}
+
+// That a shared gate has the same value on both sides.
+fn push_twin(lines: &mut Draft, twin: Twin) -> Result<(), NoMemory> {
+    let Twin { left, right, reads } = twin;
+    if let Some(reads) = reads {
+        lines.push(&[number(not(right)), number(left), number(reads)])?;
+    }
+    lines.push(&[number(not(right)), number(left)])?;
+    if let Some(reads) = reads {
+        lines.push(&[number(right), number(not(left)), number(reads)])?;
+    }
+    lines.push(&[number(right), number(not(left))])?;
+    Ok(())
+}
+
 #[derive(Drop)]
 pub(crate) struct Kept {
     solver: Solver,
@@ -250,6 +352,14 @@ pub(crate) struct Kept {
     // how many blocked cubes are denied, and how many ways out are closed
     denied: usize,
     closed: usize,
+    // how long the solver's log was when each of them was
+    closings: Vec<usize>,
+    names: Names,
+}
+
+fn last_of(lits: &[u32], count: usize) -> &[u32] {
+    let from = lits.len().saturating_sub(count);
+    &lits[from..]
 }
 
 fn one_behind(alloc: Global, first: &[u32], second: &[u32]) -> Result<Vec<u32>, NoMemory> {
@@ -285,6 +395,18 @@ impl Kept {
         let beyond = numbers_of(alloc, other.nexts.as_slice(), second.as_slice())?;
         let nexts = one_behind(alloc, ahead.as_slice(), beyond.as_slice())?;
         let both = one_behind(alloc, left.as_slice(), right.as_slice())?;
+        let mut names = Names {
+            lits: vec![in alloc; 2; (vars as usize).saturating_add(1)]?,
+            twins: Vec::new(alloc),
+            count: 0,
+        };
+        names.give(inputs.as_slice());
+        names.give(left.as_slice());
+        names.give_open(left.as_slice(), right.as_slice());
+        names.give(&[2]);
+        let gates = one.gates.as_slice();
+        names.give(last_of(first.as_slice(), gates.len()));
+        names.give_right(other.gates.as_slice(), first.as_slice(), second.as_slice())?;
         let solver = net.solver;
         Ok(Kept {
             solver,
@@ -296,6 +418,8 @@ impl Kept {
             differ,
             denied: 0,
             closed: 0,
+            closings: Vec::new(alloc),
+            names,
         })
     }
 
@@ -335,21 +459,94 @@ impl Kept {
         Ok(Guess { input, left, right })
     }
 
-    // A guess by the first way out that isn't closed.
-    pub(crate) fn guess(&mut self, alloc: Global, hops: &[Hop]) -> Result<Option<Guess>, NoMemory> {
+    // A guess by the first way out that isn't closed. None where each is closed, and where the
+    // conflicts of so many units are spent.
+    pub(crate) fn guess(
+        &mut self,
+        alloc: Global,
+        hops: &[Hop],
+        units: u32,
+    ) -> Result<Option<Guess>, NoMemory> {
         self.deny(alloc, hops)?;
+        let most = u64::from(units).saturating_mul(CONFLICTS);
         let ways = self.differ.len().saturating_add(hops.len());
         for place in self.closed..ways {
             let assumed = self.way(alloc, hops, place)?;
-            match self.solver.solve(assumed.as_slice(), CONFLICTS)? {
+            let rest = most.saturating_sub(self.solver.conflicts());
+            match self.solver.solve(assumed.as_slice(), rest)? {
                 Outcome::Model(values) => {
                     let guess = self.guess_of(alloc, values.as_slice())?;
                     return Ok(Some(guess));
                 }
-                Outcome::Refuted(_) | Outcome::GaveUp => {}
+                Outcome::Refuted(_) => {}
+                Outcome::GaveUp => return Ok(None),
             }
             self.closed = place + 1;
+            self.closings.push(self.solver.log().len())?;
         }
         Ok(None)
+    }
+
+    // What the posed question calls the ways out: behind the gates it has a variable for each known
+    // place of the cubes for the pair, one for each output, and those of the cubes for the successors.
+    fn ways(&mut self, alloc: Global, hops: &[Hop]) -> Result<Vec<u32>, NoMemory> {
+        let mut next = self.names.count;
+        let mut ways = Vec::new(alloc);
+        for hop in hops {
+            next = next.saturating_add(known_count(hop.cube.as_slice()));
+        }
+        for i in 0..self.differ.len() {
+            next = next.saturating_add(1);
+            let lit = self.differ[i];
+            self.names.set(lit, next);
+            ways.push(next.saturating_mul(2))?;
+        }
+        for hop in hops {
+            next = next.saturating_add(known_count(hop.cube.as_slice()));
+            ways.push(next.saturating_mul(2))?;
+        }
+        Ok(ways)
+    }
+
+    // The solver's line as the posed question has it.
+    fn push_line(&self, alloc: Global, lines: &mut Draft, line: &[i32]) -> Result<(), NoMemory> {
+        let mut numbers = Vec::new(alloc);
+        for it in line {
+            let lit = it.unsigned_abs().saturating_mul(2);
+            let name = self.names.of(lit);
+            numbers.push(number(if *it < 0 { not(name) } else { name }))?;
+        }
+        lines.push(numbers.as_slice())?;
+        Ok(())
+    }
+
+    // What was learnt, with that a way out is closed in the place of the line that closed it.
+    fn push_learnt(&self, alloc: Global, lines: &mut Draft, ways: &[u32]) -> Result<(), NoMemory> {
+        let log = self.solver.log();
+        let mut way = 0usize;
+        for i in 0..log.len() {
+            if way < self.closings.len() && self.closings[way] == i + 1 {
+                lines.push(&[number(not(lit_at(ways, way)))])?;
+                way += 1;
+            } else {
+                self.push_line(alloc, lines, log.get(i))?;
+            }
+        }
+        Ok(())
+    }
+
+    // Where each way out is closed, the lines that refute the posed question. They promise nothing.
+    pub(crate) fn lines(&mut self, alloc: Global, hops: &[Hop]) -> Result<Draft, NoMemory> {
+        let mut lines = Draft::new(alloc);
+        if self.closed < self.differ.len().saturating_add(hops.len()) {
+            return Ok(lines);
+        }
+        let ways = self.ways(alloc, hops)?;
+        for twin in self.names.twins.as_slice() {
+            push_twin(&mut lines, *twin)?;
+        }
+        self.push_learnt(alloc, &mut lines, ways.as_slice())?;
+        lines.push(&[])?;
+        Ok(lines)
     }
 }

@@ -16,16 +16,22 @@ use rst_gate::Cube;
 use rst_outside::NoMemory;
 use rst_pair::{Entry, Front, Kind, Pair, Query};
 use rst_pose::pose;
-use rst_solve::{Answer, solve};
+use rst_solve::{Answer, Draft, solve_by};
 use std::alloc::Global;
 
-// What the search answers to the question.
-fn ask(alloc: Global, pair: &Pair, front: &Front, left: u32) -> Result<Answer, NoMemory>
+// What the search answers to the question, after these lines were tried.
+fn ask(
+    alloc: Global,
+    pair: &Pair,
+    front: &Front,
+    left: u32,
+    lines: &Draft,
+) -> Result<Answer, NoMemory>
     requires { IsWithin pair.now front.now }
     ensures { IfOk result (λ answer. AnswersSplit pair.now front.now left answer) }
 {
     let clauses = pose(alloc, pair, front, &Query::Split)?;
-    let answer = solve(alloc, &clauses, left)?;
+    let answer = solve_by(alloc, &clauses, left, lines)?;
     Ok(answer)
 }
 
@@ -71,12 +77,13 @@ fn block_case(
 }
 
 // Asks once, and notes the answer: paths, and a blocked pair where one splits and a unit is left.
-// The log refutes the question.
+// The log refutes the question, and is that of the lines where they do.
 pub(crate) fn turn(
     alloc: Global,
     pair: &Pair,
     so_far: &mut Refining,
     left: u32,
+    lines: &Draft,
 ) -> Result<Option<Log>, NoMemory>
     requires small_left { IsSmall pair.now.left }
     requires small_right { IsSmall pair.now.right }
@@ -93,7 +100,7 @@ pub(crate) fn turn(
     ensures refutes { IfOk result (λ log. IfSome log (λ l. Refutes pair.now so_far.new.front Split l)) }
 {
     let room = left - so_far.journal.len() as u32;
-    let answer = ask(alloc, pair, &so_far.front, room)?;
+    let answer = ask(alloc, pair, &so_far.front, room, lines)?;
     match answer {
         Answer::Model { bits, paths } => {
             note_paths(alloc, so_far, paths.as_slice())?;

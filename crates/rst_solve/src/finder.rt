@@ -3,6 +3,7 @@ ghost use Rattle.std.specs.Prelude.{IfOk, IfSome};
 ghost use Rattle.rst_solve.specs.Answers.{EndsEmptyAlone};
 ghost use Rattle.rst_solve.specs.Finds.{EndsWell};
 
+use crate::draft::Draft;
 use rst_cdcl::{Outcome, Solver};
 use rst_clause::{Clause, ClauseStore, Clauses, Lit, Log};
 use rst_outside::NoMemory;
@@ -79,8 +80,17 @@ fn clause_of(alloc: Global, numbers: &[i32]) -> Result<Clause, NoMemory> {
     Ok(clause)
 }
 
-// The lines up to the first that is empty, if one is.
-fn log_of(alloc: Global, found: &rst_cdcl::Log) -> Result<Option<Log>, NoMemory>
+// The lines of a solver's log.
+fn lines_of(alloc: Global, log: &rst_cdcl::Log) -> Result<Draft, NoMemory> {
+    let mut lines = Draft::new(alloc);
+    for i in 0..log.len() {
+        lines.push(log.get(i))?;
+    }
+    Ok(lines)
+}
+
+/// The lines up to the first that is empty, if one is.
+pub fn log_of(alloc: Global, found: &Draft) -> Result<Option<Log>, NoMemory>
     ensures { IfOk result (λ log. IfSome log (λ lines. EndsEmptyAlone lines)) }
 {
     let mut log = Log::new(alloc);
@@ -105,7 +115,8 @@ pub fn find(alloc: Global, clauses: &Clauses, left: u32) -> Result<Found, NoMemo
         Outcome::Model(values) => Ok(Found::Model(values)),
         Outcome::Refuted(_) => {
             let needed = solver.trimmed_log()?;
-            match log_of(alloc, &needed)? {
+            let lines = lines_of(alloc, &needed)?;
+            match log_of(alloc, &lines)? {
                 Some(log) => Ok(Found::Refuted(log)),
                 None => Ok(Found::Nothing),
             }

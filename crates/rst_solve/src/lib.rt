@@ -4,6 +4,7 @@
 #![tactic(auto)]
 
 mod climb;
+mod draft;
 mod evaluate;
 mod finder;
 mod levels;
@@ -11,4 +12,5 @@ mod search;
 mod solver;
 mod tree;
 
-pub use solver::{Answer, solve};
+pub use draft::Draft;
+pub use solver::{Answer, solve, solve_by};

@@ -4,10 +4,11 @@ ghost use Rattle.rst_clause.specs.Literals.{Solves};
 ghost use Rattle.rst_clause.specs.Passes.{clauses_of};
 ghost use Rattle.rst_clause.specs.Solutions.{IsSolution};
 ghost use Rattle.rst_solve.specs.Choices.{choice_of};
-ghost use Rattle.rst_solve.specs.Answers.{Answers};
+ghost use Rattle.rst_solve.specs.Answers.{Answers, EndsEmptyAlone};
 
+use crate::draft::Draft;
 use crate::evaluate::solves;
-use crate::finder::{Found, find};
+use crate::finder::{Found, find, log_of};
 use crate::search::search;
 use crate::tree::Posed;
 use rst_check::refutes;
@@ -53,6 +54,23 @@ fn whole(alloc: Global, free: u32) -> Result<Vec<Cube>, NoMemory>
     Ok(paths)
 }
 
+// The answer of a log, where it refutes.
+fn refuted(
+    alloc: Global,
+    clauses: &Clauses,
+    left: u32,
+    log: Log,
+) -> Result<Option<Answer>, NoMemory>
+    requires { EndsEmptyAlone log }
+    ensures { IfOk result (λ found. IfSome found (λ a. Answers clauses.now left a)) }
+{
+    if left == 0 || !refutes(alloc, clauses, &log)? {
+        return Ok(None);
+    }
+    let paths = whole(alloc, clauses.free)?;
+    Ok(Some(Answer::Refuted { log, paths }))
+}
+
 // What the finder found, where the checks bear it out.
 fn checked(alloc: Global, clauses: &Clauses, left: u32) -> Result<Option<Answer>, NoMemory>
     ensures { IfOk result (λ found. IfSome found (λ a. Answers clauses.now left a)) }
@@ -65,13 +83,7 @@ fn checked(alloc: Global, clauses: &Clauses, left: u32) -> Result<Option<Answer>
             }
             None => Ok(None),
         },
-        Found::Refuted(log) => {
-            if left == 0 || !refutes(alloc, clauses, &log)? {
-                return Ok(None);
-            }
-            let paths = whole(alloc, clauses.free)?;
-            Ok(Some(Answer::Refuted { log, paths }))
-        }
+        Found::Refuted(log) => refuted(alloc, clauses, left, log),
         Found::Nothing => Ok(None),
     }
 }
@@ -100,4 +112,36 @@ pub fn solve(alloc: Global, clauses: &Clauses, left: u32) -> Result<Answer, NoMe
         all: clauses.all(alloc)?,
     };
     search(&q, left)
+}
+
+// The answer of the lines, up to the first that is empty, where they refute.
+fn proposed(
+    alloc: Global,
+    clauses: &Clauses,
+    left: u32,
+    lines: &Draft,
+) -> Result<Option<Answer>, NoMemory>
+    ensures { IfOk result (λ found. IfSome found (λ a. Answers clauses.now left a)) }
+{
+    match log_of(alloc, lines)? {
+        Some(log) => refuted(alloc, clauses, left, log),
+        None => Ok(None),
+    }
+}
+
+/// Answers as `solve` does. First it replays the proposed lines, up to the first that is empty: where
+/// they refute the clauses, they are the log, with one path in which no place is known. Else it
+/// searches.
+pub fn solve_by(
+    alloc: Global,
+    clauses: &Clauses,
+    left: u32,
+    lines: &Draft,
+) -> Result<Answer, NoMemory>
+    ensures { IfOk result (λ a. Answers clauses.now left a) }
+{
+    if let Some(answer) = proposed(alloc, clauses, left, lines)? {
+        return Ok(answer);
+    }
+    solve(alloc, clauses, left)
 }
