@@ -110,7 +110,10 @@ impl Queue {
     pub fn advance(&mut self) {
         self.met.sort_unstable();
         for k in 0..self.met.len() {
-            let variable = self.met[k].variable;
+            let Some(met) = self.met.get(k) else {
+                break;
+            };
+            let variable = met.variable;
             self.remove(variable);
             self.append(variable);
         }
