@@ -349,6 +349,8 @@ pub(crate) struct Kept {
     both: Vec<u32>,
     nexts: Vec<u32>,
     differ: Vec<u32>,
+    outs: Vec<u32>,
+    shown: Vec<u32>,
     // how many blocked cubes are denied, and how many ways out are closed
     denied: usize,
     closed: usize,
@@ -416,6 +418,8 @@ impl Kept {
             both,
             nexts,
             differ,
+            outs,
+            shown,
             denied: 0,
             closed: 0,
             closings: Vec::new(alloc),
@@ -508,6 +512,18 @@ impl Kept {
         Ok(ways)
     }
 
+    // That an output which both sides share doesn't differ, by cases of its value.
+    fn push_shared(&self, lines: &mut Draft) -> Result<(), NoMemory> {
+        for i in 0..self.differ.len() {
+            let out = lit_at(self.outs.as_slice(), i);
+            if out == lit_at(self.shown.as_slice(), i) {
+                let differs = self.names.of(self.differ[i]);
+                lines.push(&[number(not(differs)), number(self.names.of(out))])?;
+            }
+        }
+        Ok(())
+    }
+
     // The solver's line as the posed question has it.
     fn push_line(&self, alloc: Global, lines: &mut Draft, line: &[i32]) -> Result<(), NoMemory> {
         let mut numbers = Vec::new(alloc);
@@ -545,6 +561,7 @@ impl Kept {
         for twin in self.names.twins.as_slice() {
             push_twin(&mut lines, *twin)?;
         }
+        self.push_shared(&mut lines)?;
         self.push_learnt(alloc, &mut lines, ways.as_slice())?;
         lines.push(&[])?;
         Ok(lines)
