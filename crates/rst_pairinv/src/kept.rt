@@ -501,7 +501,7 @@ impl Kept {
         }
         for i in 0..self.differ.len() {
             next = next.saturating_add(1);
-            let lit = self.differ[i];
+            let lit = lit_at(self.differ.as_slice(), i);
             self.names.set(lit, next);
             ways.push(next.saturating_mul(2))?;
         }
