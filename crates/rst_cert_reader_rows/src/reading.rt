@@ -127,7 +127,7 @@ fn fault_with(
 // A part of a certificate, and what takes its place.
 type Change = (&'static [u8], &'static [u8]);
 
-const HEADERS: [Change; 11] = [
+const HEADERS: [Change; 13] = [
     (b"certificate 2", b"certificate 3"),
     (b"certificate 2", b"certificate 02"),
     (b"certificate 2", b"certificate  2"),
@@ -136,6 +136,8 @@ const HEADERS: [Change; 11] = [
     (b"clock clk", b"clock 1"),
     (b"clock clk\n", b""),
     (b"registers 1", b"registers 513"),
+    (b"registers 1", b"registers 18446744073709551617"),
+    (b"registers 1", b"registers 99999999999999999999"),
     (b"inputs 1", b"inputs 257"),
     (b"outputs 1", b"outputs 257"),
     (b"known", b"unknown "),
