@@ -23,7 +23,7 @@ use Rattle.rst_cert_reader.specs.Headings.{whole, at_most, number_in}
 use Rattle.rst_cert_reader.specs.Sections.{is_known, free_where, shape_of, marked_behind, before_of, blocked_behind, freed_behind, place_of, with_entry, with_free_step, with_step, with_word, with_blocked, with_freed, with_first, with_second, with_work, with_item, with_equal, with_a, with_b, begun_by}
 use Rattle.rst_cert_reader.proofs.Written.{section_lines, lines_of, before, IsOf, keeps_freesteps, keeps_steps, keeps_word, keeps_equal, keeps_statea, keeps_stateb, keeps_blocked, keeps_freed, keeps_splitlog, keeps_landlog, keeps_escapelog, keeps_stucklog, keeps_journal}
 
-whole_some : {A : Type 0} (read : Read A) (a : A) → whole read ≡ Some a → read ≡ Some (a, [])
+pub whole_some : {A : Type 0} (read : Read A) (a : A) → whole read ≡ Some a → read ≡ Some (a, [])
 whole_some None a e = absurd (no_some a e)
 whole_some (Some (b, [])) a e = ap (λ (x : _). Some (x, [])) (the_some b a e)
 whole_some (Some (b, c ∷ rest)) a e = absurd (no_some a e)
@@ -38,7 +38,7 @@ at_most_some most (Some n) number e =
     let p = chosen (nat_le n most) n number e in
     (ap (λ (k : ℕ). Some k) p.1, subst (λ (k : ℕ). k ≤ most) p.1 (leb-true n most p.0))
 
-free_some : (free : Bool) (option : Option (List Tern)) (places : List Tern) → free_where free option ≡ Some places → option ≡ Some places
+pub free_some : (free : Bool) (option : Option (List Tern)) (places : List Tern) → free_where free option ≡ Some places → option ≡ Some places
 free_some free None places e = absurd (no_some places e)
 free_some free (Some cube) places e = ap (λ (c : List Tern). Some c) (chosen (free || list_all is_known cube) cube places e).1
 

@@ -50,7 +50,7 @@ version_some : (option : Option ℕ) (number : ℕ) → version_of option ≡ So
 version_some None number e = absurd (no_some number e)
 version_some (Some n) number e = ap (λ (k : ℕ). Some k) (chosen (nat_le 1 n) n number e).1
 
-version_line : (text : List ℕ) (number : ℕ) → version_in text ≡ Some number → text ≡ counted (codes "reset-certificate") number
+pub version_line : (text : List ℕ) (number : ℕ) → version_in text ≡ Some number → text ≡ counted (codes "reset-certificate") number
 unfolding version_in
 version_line text number e =
     (number_line (codes "reset-certificate") 2 text number (version_some (number_in (codes "reset-certificate") 2 text) number e)).0
@@ -82,7 +82,7 @@ kind_by false false false false true f text kind p q r s t u is = subst (λ (k :
 kind_by false false false false false true text kind p q r s t u is = subst (λ (k : CertKind). text ≡ kind_word k) (the_some Unknown kind is) ((bytes_eq-Decides text (codes "unknown")).0 (sym u))
 kind_by false false false false false false text kind p q r s t u is = absurd (no_some kind is)
 
-kind_is : (text : List ℕ) (kind : CertKind) → kind_in text ≡ Some kind → text ≡ kind_word kind
+pub kind_is : (text : List ℕ) (kind : CertKind) → kind_in text ≡ Some kind → text ≡ kind_word kind
 unfolding kind_in
 kind_is text kind e = kind_by (bytes_eq text (codes "known")) (bytes_eq text (codes "relation")) (bytes_eq text (codes "refuted")) (bytes_eq text (codes "never"))
     (bytes_eq text (codes "alignable")) (bytes_eq text (codes "unknown")) text kind refl refl refl refl refl refl e

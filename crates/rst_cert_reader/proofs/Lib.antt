@@ -3,3 +3,6 @@ pub mod Written
 pub mod Adding
 pub mod Headers
 pub mod Found
+pub mod Lengths
+pub mod Short
+pub mod Keeping

@@ -1,5 +1,5 @@
 -- What is due is no fault.
-use Rattle.std.proofs.Common.{◌≡◌, ◌==◌, Option, None, Some, option_map, ◌∷◌, ℕ, Bool, true, false, List, refl, if◌then◌else◌}
+use Rattle.std.proofs.Common.{◌≡◌, ◌==◌, ℕ, Bool, true, false, List, refl, if◌then◌else◌}
 use Rattle.rst_cert_reader.specs.declared.heading.HeadLine.{HeadLine}
 use Rattle.rst_cert_reader.specs.declared.heading.HeadLine.TheVariants.{Version, Form, Clock, Registers, Inputs, Outputs, Kind}
 use Rattle.rst_cert_reader.specs.declared.heading.CertKind.{CertKind}
@@ -10,7 +10,8 @@ use Rattle.rst_cert_reader.specs.declared.section.Section.{Section}
 use Rattle.rst_cert_reader.specs.declared.section.Section.TheVariants.{FreeSteps, Steps, Word, Equal, StateA, StateB, Blocked, Freed, SplitLog, LandLog, EscapeLog, StuckLog, Journal}
 use Rattle.rst_cert_reader.specs.declared.stage.Stage.{Stage}
 use Rattle.rst_cert_reader.specs.declared.stage.Stage.TheVariants.{Head, Begin, Items, Endless, End, Closed, BadHead, Bad}
-use Rattle.rst_cert_reader.specs.Readings.{Reading, stage_behind, stage_behind_head, stage_with, told, taken, ReaderState, fed, fed_all}
+use Rattle.rst_cert_reader.specs.Readings.{Reading, stage_behind, stage_behind_head, stage_with, told, taken}
+use Rattle.rst_cert_reader.specs.Keeping.{is_short}
 
 -- whatever is due, but no fault
 abbrev pub shown : Heading → Gathered → Stage → Reading
@@ -113,8 +114,30 @@ taken_told heading gathered Closed number line = refl
 taken_told heading gathered BadHead number line = refl
 taken_told heading gathered (Bad first) number line = refl
 
--- bytes are read one behind the other
-pub feeds_go : (reader : Option ReaderState) (byte : ℕ) (bytes : List ℕ)
-    → option_map (λ state. fed_all state (byte ∷ bytes)) reader ≡ option_map (λ state. fed_all state bytes) (option_map (λ state. fed state byte) reader)
-feeds_go None byte bytes = refl
-feeds_go (Some state) byte bytes = refl
+-- what is due is told
+pub told_stage : (heading : Heading) (gathered : Gathered) (stage : Stage) → (told heading gathered stage).stage ≡ stage
+told_stage heading gathered (Head due) = refl
+told_stage heading gathered (Begin section) = refl
+told_stage heading gathered (Items section left) = refl
+told_stage heading gathered Endless = refl
+told_stage heading gathered End = refl
+told_stage heading gathered Closed = refl
+told_stage heading gathered BadHead = refl
+told_stage heading gathered (Bad first) = refl
+
+pub short_told : (heading : Heading) (gathered : Gathered) (stage : Stage)
+    → is_short (told heading gathered stage).heading (told heading gathered stage).gathered (told heading gathered stage).stage ≡ is_short heading gathered stage
+short_told heading gathered (Head Version) = refl
+short_told heading gathered (Head Form) = refl
+short_told heading gathered (Head Clock) = refl
+short_told heading gathered (Head Registers) = refl
+short_told heading gathered (Head Inputs) = refl
+short_told heading gathered (Head Outputs) = refl
+short_told heading gathered (Head Kind) = refl
+short_told heading gathered (Begin section) = refl
+short_told heading gathered (Items section left) = refl
+short_told heading gathered Endless = refl
+short_told heading gathered End = refl
+short_told heading gathered Closed = refl
+short_told heading gathered BadHead = refl
+short_told heading gathered (Bad first) = refl

@@ -3,3 +3,7 @@
 pub mod Headings
 pub mod Sections
 pub mod Readings
+-- To be believed too: Kept, the texts that a reader stands for.
+pub mod Kept
+-- Words of contracts inside the crate.
+pub mod Keeping

@@ -1,16 +1,21 @@
 // Certificates, read in pieces.
-ghost use Rattle.std.specs.Prelude.{◌≡◌, ◌==◌, IfOk, IfSome, IfNone, OnOk, OnErr, IsSome, None, Some, Ok, Err, option_map};
+ghost use Rattle.std.specs.Prelude.{◌≡◌, ◌==◌, ◌++◌, ℕ, List, [], IfOk, IfSome, IfNone, OnOk, OnErr, IsSome, None, Some, Ok, Err, option_map};
 ghost use Rattle.rst_certificate.specs.CertText.{cert_text};
-ghost use Rattle.rst_cert_reader.specs.Readings.{ReaderState, start, line_fed, fed, fed_all, verdict_of, cert_from, finished, cert_of, Answers};
+ghost use Rattle.rst_cert_reader.specs.Readings.{verdict_of, cert_from, cert_of, Answers};
+ghost use Rattle.rst_cert_reader.specs.Kept.{StandsFor};
+ghost use Rattle.rst_cert_reader.specs.Keeping.{whole_ends, lost_ends, line_ends, line_lost, with_byte, long_goes, line_goes, kept_behind, kept_all, kept_finished, kept_start};
 ghost use Rattle.rst_cert_reader.specs.declared.stage.Stage.TheVariants.{Closed};
 
 use crate::gathered::Gathered;
 use crate::heading::{CertKind, HeadLine, Heading};
-use crate::stage::{Stage, take};
+use crate::stage::{Stage, is_short, stage_behind_fault, take};
 use rst_outside::NoMemory;
 use rst_verdict::{Cert, Verdict};
 use std::alloc::Global;
 use std::marker::Model;
+
+// How long a line may be before it is asked whether it can still be one of the format.
+const LONG: usize = 4_096;
 
 /// Why a text isn't a certificate.
 #[derive(Clone, Copy, Debug, PartialEq, Eq)]
@@ -27,7 +32,10 @@ pub enum CertFault {
 
 /// Reads a certificate piece by piece, so that its text is held nowhere whole.
 ///
-/// Contracts see what the bytes so far have come to. Once memory ran out, that is nothing.
+/// Of the line under way at most 4,096 bytes are kept, but for a clause, the clock's line and the first line
+/// of a log, which may be of any length; a longer one of another kind is at fault, and nothing of it is kept.
+/// Contracts see what is kept, and speak by the texts that a reader stands for (`StandsFor`): a new one
+/// stands for the empty text. Once memory ran out it stands for none.
 #[derive(Drop)]
 pub struct CertReader {
     alloc: Global,
@@ -36,23 +44,32 @@ pub struct CertReader {
     stage: Stage,
     number: u32,
     ends: bool,
+    lost: bool,
     partial: Vec<u8>,
     refused: bool,
 }
 
 impl Model for CertReader {
     ghost use Rattle.std.specs.Prelude.{Option, None, Some, if◌then◌else◌};
-    ghost use Rattle.rst_cert_reader.specs.Readings.{ReaderState, told};
+    ghost use Rattle.rst_cert_reader.specs.Readings.{told};
+    ghost use Rattle.rst_cert_reader.specs.Kept.{Kept};
 
-    ghost Value = { Option ReaderState };
+    ghost Value = { Option Kept };
 
-    ghost view = { λ r. if r.refused then None else Some (record { reading = told r.heading r.gathered r.stage; number = r.number; ends = r.ends; partial = r.partial.items }) };
+    ghost view = { λ r. if r.refused then None else Some (record { reading = told r.heading r.gathered r.stage; number = r.number; ends = r.ends; lost = r.lost; partial = r.partial.items }) };
 }
 
 impl CertReader {
     /// A reader of no bytes.
+    #[tactic(auto, using(crate::proofs::Keeping::stands_at_first))]
     pub fn new(alloc: Global) -> Result<CertReader, NoMemory>
-        ensures { IfOk result (λ reader. reader ≡ Some start) }
+        ensures { IfOk result (λ reader. StandsFor reader []) }
+    {
+        CertReader::fresh(alloc)
+    }
+
+    fn fresh(alloc: Global) -> Result<CertReader, NoMemory>
+        ensures { IfOk result (λ reader. reader ≡ Some kept_start) }
     {
         Ok(CertReader {
             alloc,
@@ -61,6 +78,7 @@ impl CertReader {
             stage: Stage::Head(HeadLine::Version),
             number: 0,
             ends: false,
+            lost: false,
             partial: Vec::new(alloc),
             refused: false,
         })
@@ -68,8 +86,8 @@ impl CertReader {
 
     // Reads the line that ends here.
     #[tactic(auto, using(crate::proofs::Stages::taken_told))]
-    fn end_line(&mut self) -> Result<(), NoMemory>
-        ensures { OnOk result (self.new ≡ option_map line_fed self.old) }
+    fn end_whole(&mut self) -> Result<(), NoMemory>
+        ensures { OnOk result (self.new ≡ option_map whole_ends self.old) }
     {
         let number = self.number.saturating_add(1);
         let line = self.partial.as_slice();
@@ -85,24 +103,88 @@ impl CertReader {
         self.stage = stage;
         self.number = number;
         self.ends = ends;
+        self.lost = false;
         self.partial.clear();
         Ok(())
     }
 
-    fn byte(&mut self, byte: u8) -> Result<(), NoMemory>
-        ensures { OnOk result (self.new ≡ option_map (λ state. fed state byte) self.old) }
+    // Ends the line of which nothing is kept.
+    fn end_lost(&mut self)
+        ensures { self.new ≡ option_map lost_ends self.old }
     {
-        if byte == b'\n' {
-            return self.end_line();
+        self.number = self.number.saturating_add(1);
+        self.ends = false;
+        self.lost = false;
+        self.partial.clear();
+    }
+
+    fn end_line(&mut self) -> Result<(), NoMemory>
+        ensures { OnOk result (self.new ≡ option_map line_ends self.old) }
+    {
+        if self.lost {
+            self.end_lost();
+            Ok(())
+        } else {
+            self.end_whole()
         }
+    }
+
+    // Drops the line under way, which is at fault whatever follows in it.
+    #[tactic(auto, using(crate::proofs::Stages::told_stage))]
+    fn lose_line(&mut self)
+        ensures { self.new ≡ option_map line_lost self.old }
+    {
+        self.stage = stage_behind_fault(self.stage, self.number.saturating_add(1));
+        self.lost = true;
+        self.partial.clear();
+    }
+
+    fn keep_byte(&mut self, byte: u8) -> Result<(), NoMemory>
+        ensures { OnOk result (self.new ≡ option_map (λ k. with_byte k byte) self.old) }
+    {
         self.partial.push(byte)?;
         Ok(())
     }
 
-    #[tactic(auto, using(crate::proofs::Stages::feeds_go))]
-    /// Reads the next piece of the text. After a refusal each later call answers NoMemory.
-    pub fn feed(&mut self, piece: &[u8]) -> Result<(), NoMemory>
-        ensures fed { OnOk result (self.new ≡ option_map (λ state. fed_all state piece.now) self.old) }
+    // Takes a byte into a line that is long.
+    #[tactic(auto, using(crate::proofs::Stages::short_told))]
+    fn long_byte(&mut self, byte: u8) -> Result<(), NoMemory>
+        ensures { OnOk result (self.new ≡ option_map (λ k. long_goes k byte) self.old) }
+    {
+        if is_short(&self.heading, &self.gathered, self.stage) {
+            self.lose_line();
+            Ok(())
+        } else {
+            self.keep_byte(byte)
+        }
+    }
+
+    // Takes a byte into the line.
+    fn line_byte(&mut self, byte: u8) -> Result<(), NoMemory>
+        ensures { OnOk result (self.new ≡ option_map (λ k. line_goes k byte) self.old) }
+    {
+        if self.lost {
+            Ok(())
+        } else if self.partial.len() >= LONG {
+            self.long_byte(byte)
+        } else {
+            self.keep_byte(byte)
+        }
+    }
+
+    fn byte(&mut self, byte: u8) -> Result<(), NoMemory>
+        ensures { OnOk result (self.new ≡ option_map (λ k. kept_behind k byte) self.old) }
+    {
+        if byte == b'\n' {
+            self.end_line()
+        } else {
+            self.line_byte(byte)
+        }
+    }
+
+    #[tactic(auto, using(crate::proofs::Keeping::feeds_go))]
+    fn bytes(&mut self, piece: &[u8]) -> Result<(), NoMemory>
+        ensures fed { OnOk result (self.new ≡ option_map (λ k. kept_all k piece.now) self.old) }
         ensures some { OnOk result (IsSome self.old) }
         ensures refused { OnErr result (self.new ≡ None) }
     {
@@ -118,16 +200,25 @@ impl CertReader {
         Ok(())
     }
 
+    /// Reads the next piece of the text. After a refusal each later call answers NoMemory.
+    pub fn feed(&mut self, piece: &[u8]) -> Result<(), NoMemory>
+        ensures fed { OnOk result ((text : List ℕ) → StandsFor self.old text → StandsFor self.new (text ++ piece.now)) }
+        ensures some { OnOk result (IsSome self.old) }
+        ensures refused { OnErr result (self.new ≡ None) }
+    {
+        self.bytes(piece)
+    }
+
     // The fault of the text, if it isn't a certificate.
     fn fault(&self) -> Option<CertFault>
-        ensures fault { IfSome result (λ fault. IfSome self.now (λ state. Answers (finished state) (Err fault))) }
+        ensures fault { IfSome result (λ fault. IfSome self.now (λ k. Answers (kept_finished k) (Err fault))) }
         ensures refused { self.now ≡ None → result ≡ Some CertFault.NoMemory }
-        ensures none { IfNone result (IfSome self.now (λ state. (state.reading.stage ≡ Closed) × (finished state ≡ Ok (cert_from state.reading.heading state.reading.gathered)))) }
+        ensures none { IfNone result (IfSome self.now (λ k. (k.reading.stage ≡ Closed) × (kept_finished k ≡ Ok (cert_from k.reading.heading k.reading.gathered)))) }
     {
         if self.refused {
             return Some(CertFault::NoMemory);
         }
-        if !self.ends || !self.partial.is_empty() {
+        if self.lost || !self.ends || !self.partial.is_empty() {
             return Some(CertFault::Cut);
         }
         match self.stage {
@@ -141,7 +232,7 @@ impl CertReader {
     }
 
     fn into_cert(self) -> Cert
-        ensures { IfSome self (λ state. state.reading.stage ≡ Closed → result ≡ cert_from state.reading.heading state.reading.gathered) }
+        ensures { IfSome self (λ k. k.reading.stage ≡ Closed → result ≡ cert_from k.reading.heading k.reading.gathered) }
     {
         let CertReader {
             heading,
@@ -151,9 +242,8 @@ impl CertReader {
         cert_from(heading, gathered)
     }
 
-    /// The certificate that the text is, or its first fault.
-    pub fn finish(self) -> Result<Cert, CertFault>
-        ensures cert { IfSome self (λ state. Answers (finished state) result) }
+    fn finish_kept(self) -> Result<Cert, CertFault>
+        ensures cert { IfSome self (λ k. Answers (kept_finished k) result) }
         ensures refused { self ≡ None → result ≡ Err CertFault.NoMemory }
     {
         match self.fault() {
@@ -163,6 +253,15 @@ impl CertReader {
             }
             None => Ok(self.into_cert()),
         }
+    }
+
+    /// The certificate that the text is, or its first fault.
+    #[tactic(auto, using(crate::proofs::Keeping::answers))]
+    pub fn finish(self) -> Result<Cert, CertFault>
+        ensures cert { (text : List ℕ) → StandsFor self text → Answers (cert_of text) result }
+        ensures refused { self ≡ None → result ≡ Err CertFault.NoMemory }
+    {
+        self.finish_kept()
     }
 }
 
@@ -255,7 +354,7 @@ pub fn read_cert(alloc: Global, text: &[u8]) -> Result<Cert, CertFault>
 }
 
 fn read_whole(mut reader: CertReader, text: &[u8]) -> Result<Cert, CertFault>
-    ensures { reader ≡ Some start → Answers (cert_of text.now) result }
+    ensures { StandsFor reader [] → Answers (cert_of text.now) result }
 {
     match reader.feed(text) {
         Ok(()) => reader.finish(),

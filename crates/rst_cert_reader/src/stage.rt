@@ -4,6 +4,7 @@ ghost use Rattle.rst_cert_reader.specs.declared.gathered.Gathered.{Gathered};
 ghost use Rattle.rst_cert_reader.specs.Headings.{with_line};
 ghost use Rattle.rst_cert_reader.specs.Sections.{with_item, begun_by, is_clause, is_long_log};
 ghost use Rattle.rst_cert_reader.specs.Readings.{first_section, stage_behind, stage_behind_head, stage_with, told, with_head, with_begun, with_more, taken, endless, bad_line};
+ghost use Rattle.rst_cert_reader.specs.Keeping.{is_log, is_small, is_short, behind_fault};
 ghost use Rattle.rst_cert_reader.specs.declared.heading.Heading.{Heading};
 
 use crate::gathered::{Gathered, is_clause, is_long_log};
@@ -230,5 +231,56 @@ pub(crate) fn take(
         Stage::End if line == b"end".as_slice() => Ok(Stage::Closed),
         Stage::End | Stage::Closed => Ok(Stage::Bad(number)),
         Stage::BadHead | Stage::Bad(_) => Ok(stage),
+    }
+}
+
+fn is_log(section: Section) -> bool
+    ensures { result ≡ is_log section }
+{
+    match section {
+        Section::SplitLog | Section::LandLog | Section::EscapeLog | Section::StuckLog => true,
+        Section::FreeSteps
+        | Section::Steps
+        | Section::Word
+        | Section::Equal
+        | Section::StateA
+        | Section::StateB
+        | Section::Blocked
+        | Section::Freed
+        | Section::Journal => false,
+    }
+}
+
+// Whether what was read has the limits of the format.
+fn is_small(heading: &Heading, gathered: &Gathered) -> bool
+    ensures { result ≡ is_small heading.now gathered.now }
+{
+    (heading.registers <= 512 && heading.inputs <= 256)
+        && (gathered.blocked_entries <= 100_000 && gathered.freed_entries <= 100_000)
+}
+
+/// Whether a line of 4,096 bytes is at fault where this is due.
+pub(crate) fn is_short(heading: &Heading, gathered: &Gathered, stage: Stage) -> bool
+    ensures { result ≡ is_short heading.now gathered.now stage }
+{
+    match stage {
+        Stage::Head(HeadLine::Clock) | Stage::Endless => false,
+        Stage::Begin(section) | Stage::Items(section, _) => {
+            is_small(heading, gathered) && !is_log(section)
+        }
+        Stage::Head(_) | Stage::End | Stage::Closed | Stage::BadHead | Stage::Bad(_) => true,
+    }
+}
+
+/// What is due behind the line of this number that is at fault.
+pub(crate) fn stage_behind_fault(stage: Stage, number: u32) -> Stage
+    ensures { (heading : Heading) → (gathered : Gathered) → told heading gathered result ≡ behind_fault stage number }
+{
+    match stage {
+        Stage::Head(_) | Stage::BadHead => Stage::BadHead,
+        Stage::Bad(first) => Stage::Bad(first),
+        Stage::Begin(_) | Stage::Items(_, _) | Stage::Endless | Stage::End | Stage::Closed => {
+            Stage::Bad(number)
+        }
     }
 }

@@ -2,4 +2,6 @@
 #![tactic(auto)]
 
 #[cfg(test)]
+mod long_lines;
+#[cfg(test)]
 mod reading;

@@ -6,7 +6,7 @@ use rst_verdict::Cert;
 use std::alloc::Global;
 use std::test::Fail;
 
-const SIZES: [usize; 3] = [1, 7, 65_536];
+pub(crate) const SIZES: [usize; 3] = [1, 7, 65_536];
 
 const KNOWN: &[u8] =
     b"reset-certificate 2\nform 2\nclock clk\nregisters 1\ninputs 1\noutputs 1\nknown\nsequence 3\nstep =1\nstep =-\nstep =0\nend\n";
@@ -54,7 +54,7 @@ fn is_text_of(alloc: Global, cert: &Cert, text: &[u8]) -> Result<bool, NoMemory>
 }
 
 // Whether the text is read, and what was read is written as that text.
-fn reads_back(alloc: Global, text: &[u8], size: usize) -> Result<bool, NoMemory> {
+pub(crate) fn reads_back(alloc: Global, text: &[u8], size: usize) -> Result<bool, NoMemory> {
     match read_in_pieces(alloc, text, size) {
         Ok(cert) => {
             let same = is_text_of(alloc, &cert, text);
@@ -66,7 +66,7 @@ fn reads_back(alloc: Global, text: &[u8], size: usize) -> Result<bool, NoMemory>
 }
 
 // The fault of a text, if it has one.
-fn fault_of(alloc: Global, text: &[u8]) -> Option<CertFault> {
+pub(crate) fn fault_of(alloc: Global, text: &[u8]) -> Option<CertFault> {
     match read_cert(alloc, text) {
         Ok(cert) => {
             drop(cert);

@@ -1,22 +1,17 @@
 -- A file that is read piece by piece.
-use Rattle.std.proofs.Common.{◌≡◌, ◌+◌, ◌-◌, ◌≤◌, ◌<◌, ℕ, List, [], ◌∷◌, ◌++◌, length, take, drop, option_map, refl, sym, ap, subst, ◌∙◌, arith, length-append}
+use Rattle.std.proofs.Common.{◌≡◌, ◌+◌, ◌-◌, ◌≤◌, ◌<◌, ℕ, List, [], ◌∷◌, ◌++◌, length, take, drop, refl, sym, ap, subst, ◌∙◌, arith, length-append}
 use Rattle.std.proofs.lemmas.List.{length-take, length-drop, length-take-le, take_all}
 use lib.Seq.{take-add}
 use Rattle.std.specs.Prelude.{Option, None, Some, IfSome, Result, Ok, Err}
 use Rattle.rst_outside.specs.declared.desk.DeskFile.{DeskFile}
 use Rattle.rst_outside.specs.Files.{IsHeldUnder, IsLongUnder, IsPieceUnder}
-use Rattle.rst_cert_reader.specs.Readings.{ReaderState, start, fed, fed_all}
+use Rattle.rst_cert_reader.specs.Kept.{Kept, StandsFor}
 use Rattle.rst_take.specs.Fronts.{IsFrontUnder, HasRead, HasReadAll}
 
--- bytes are fed one list behind the other
-fed_both : (s : ReaderState) (front more : List ℕ) → fed_all (fed_all s front) more ≡ fed_all s (front ++ more)
-fed_both s [] more = refl
-fed_both s (byte ∷ front) more = fed_both (fed s byte) front more
-
 -- no byte is read at first
-pub none_read : (name : List ℕ) (files : Option (List DeskFile)) → HasRead name files 0 (Some start)
-none_read name None = record { front = []; count = refl; fed = refl; held = tt }
-none_read name (Some files) = record { front = []; count = refl; fed = refl; held = λ bytes is. refl }
+pub none_read : (name : List ℕ) (files : Option (List DeskFile)) (reader : Option Kept) → StandsFor reader [] → HasRead name files 0 reader
+none_read name None reader stands = record { front = []; count = refl; stands = stands; held = tt }
+none_read name (Some files) reader stands = record { front = []; count = refl; stands = stands; held = λ bytes is. refl }
 
 value_of : {A : Type 0} → A → Option A → A
 value_of d (Some x) = x
@@ -44,12 +39,12 @@ held_more name front into (Some files) count fits piece held = λ bytes is.
     front_more front into bytes count fits (held bytes is) (subst (λ b. take count into ≡ take count (drop (length front) b)) same piece.2.0)
 
 -- behind a piece more of the file was read
-pub reads_on : (name : List ℕ) (files : Option (List DeskFile)) (from count : ℕ) (into : List ℕ) (old new : Option ReaderState) → count ≤ length into → IfSome files (IsPieceUnder name from count into)
-    → new ≡ option_map (λ state. fed_all state (take count into)) old → HasRead name files from old → HasRead name files (from + count) new
+pub reads_on : (name : List ℕ) (files : Option (List DeskFile)) (from count : ℕ) (into : List ℕ) (old new : Option Kept) → count ≤ length into → IfSome files (IsPieceUnder name from count into)
+    → ((text : List ℕ) → StandsFor old text → StandsFor new (text ++ take count into)) → HasRead name files from old → HasRead name files (from + count) new
 reads_on name files from count into old new fits piece fed read = record {
   front = read.front ++ take count into;
   count = length-append read.front (take count into) ∙ ap (λ n. length read.front + n) (length-take-le count into fits) ∙ ap (λ n. n + count) read.count;
-  fed = fed ∙ ap (option_map (λ state. fed_all state (take count into))) read.fed ∙ ap (λ state. Some state) (fed_both start read.front (take count into));
+  stands = fed read.front read.stands;
   held = held_more name read.front into files count fits (subst (λ n. IfSome files (IsPieceUnder name n count into)) (sym read.count) piece) read.held;
 }
 
@@ -61,12 +56,12 @@ held_all name front into (Some files) piece held =
     piece.1 ∙ ap (λ text. Some text) (sym (held bytes piece.1 ∙ take_all (length front) bytes ends))
 
 -- a piece of no bytes ends the file
-pub reads_all : (name : List ℕ) (files : Option (List DeskFile)) (from limit count : ℕ) (into : List ℕ) (reader : Option ReaderState) → from ≤ limit → count ≡ 0 → IfSome files (IsPieceUnder name from count into)
+pub reads_all : (name : List ℕ) (files : Option (List DeskFile)) (from limit count : ℕ) (into : List ℕ) (reader : Option Kept) → from ≤ limit → count ≡ 0 → IfSome files (IsPieceUnder name from count into)
     → HasRead name files from reader → HasReadAll name limit files reader
 reads_all name files from limit count into reader fits none piece read = record {
   text = read.front;
   short = omega (arith, fits, read.count);
-  fed = read.fed;
+  stands = read.stands;
   held = held_all name read.front into files (subst (λ n. IfSome files (IsPieceUnder name (length read.front) n into)) none (subst (λ n. IfSome files (IsPieceUnder name n count into)) (sym read.count) piece)) read.held;
 }
 

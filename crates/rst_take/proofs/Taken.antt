@@ -8,7 +8,8 @@ use Rattle.rst_verdict.specs.declared.cert.Cert.{Cert}
 use Rattle.rst_certificate.specs.CertText.{cert_text}
 use Rattle.rst_cert_reader.specs.declared.reader.CertFault.{CertFault}
 use Rattle.rst_cert_reader.specs.declared.reader.CertFault.TheVariants as faults
-use Rattle.rst_cert_reader.specs.Readings.{ReaderState, finished, cert_of}
+use Rattle.rst_cert_reader.specs.Readings.{cert_of}
+use Rattle.rst_cert_reader.specs.Kept.{Kept, StandsFor}
 use Rattle.rst_cert_reader.proofs.Found.{found}
 use Rattle.rst_take.specs.declared.fault.TakeFault.{TakeFault}
 use Rattle.rst_take.specs.declared.fault.TakeFault.TheVariants.{Load, Text}
@@ -16,16 +17,16 @@ use Rattle.rst_take.specs.Takes.{IsReadUnder, Takes}
 use Rattle.rst_take.specs.Fronts.{HasReadAll}
 
 -- what a reader of the whole text is answered as is what the text means
-pub means : (name : List ℕ) (limit : ℕ) (files : Option (List DeskFile)) (reader : Option ReaderState) (result : Result Cert TakeFault) (all : HasReadAll name limit files reader)
-    → IfSome reader (λ state. Takes (finished state) result) → Takes (cert_of all.text) result
-means name limit files reader result all h = subst (λ r. IfSome r (λ state. Takes (finished state) result)) all.fed h
+pub means : (name : List ℕ) (limit : ℕ) (files : Option (List DeskFile)) (reader : Option Kept) (result : Result Cert TakeFault) (all : HasReadAll name limit files reader)
+    → ((text : List ℕ) → StandsFor reader text → Takes (cert_of text) result) → Takes (cert_of all.text) result
+means name limit files reader result all h = h all.text all.stands
 
 read_under : (name text : List ℕ) (limit : ℕ) (answer : Result Cert CertFault) (files : Option (List DeskFile)) → length text ≤ limit → IfSome files (IsHeldUnder name text) → cert_of text ≡ answer
     → IfSome files (IsReadUnder name limit answer)
 read_under name text limit answer None short held is = tt
 read_under name text limit answer (Some files) short held is = (text, held, short, is)
 
-pub cert_read : (name : List ℕ) (limit : ℕ) (files : Option (List DeskFile)) (reader : Option ReaderState) (result : Result Cert TakeFault) (all : HasReadAll name limit files reader)
+pub cert_read : (name : List ℕ) (limit : ℕ) (files : Option (List DeskFile)) (reader : Option Kept) (result : Result Cert TakeFault) (all : HasReadAll name limit files reader)
     → Takes (cert_of all.text) result → IfOk result (λ cert. IfSome files (IsReadUnder name limit (Ok cert)))
 cert_read name limit files reader (Ok cert) all h = read_under name all.text limit (Ok cert) files all.short all.held h
 cert_read name limit files reader (Err fault) all h = tt
@@ -44,7 +45,7 @@ fault_means read faults.Cut h = h
 fault_means read faults.BadHeader h = h
 fault_means read (faults.BadLine number) h = h
 
-pub fault_read : (name : List ℕ) (limit : ℕ) (files : Option (List DeskFile)) (reader : Option ReaderState) (result : Result Cert TakeFault) (all : HasReadAll name limit files reader)
+pub fault_read : (name : List ℕ) (limit : ℕ) (files : Option (List DeskFile)) (reader : Option Kept) (result : Result Cert TakeFault) (all : HasReadAll name limit files reader)
     → Takes (cert_of all.text) result → (fault : CertFault) → result ≡ Err (Text fault) → IfSome files (IsReadUnder name limit (Err fault))
 fault_read name limit files reader result all h fault is =
     read_under name all.text limit (Err fault) files all.short all.held (fault_means (cert_of all.text) fault (subst (λ r. Takes (cert_of all.text) r) is h))

@@ -1,9 +1,10 @@
 // Certificates, taken piece by piece.
-ghost use Rattle.std.specs.Prelude.{◌≡◌, ◌≢◌, ◌≤◌, ◌<◌, ◌+◌, ◌^◌, None, Ok, Err, length, take, replicate, option_map, IfOk, OnOk, IfErr, IsErrOf, IsErr, IfSome, IsTrue};
+ghost use Rattle.std.specs.Prelude.{◌≡◌, ◌≢◌, ◌≤◌, ◌<◌, ◌+◌, ◌^◌, ◌++◌, ℕ, List, [], None, Ok, Err, length, take, replicate, IfOk, OnOk, IfErr, IsErrOf, IsErr, IfSome, IsTrue};
 ghost use Rattle.rst_outside.specs.Causes.{Rose, HasCause};
 ghost use Rattle.rst_outside.specs.Files.{bytes_under, IsLongUnder, IsPieceUnder};
 ghost use Rattle.rst_certificate.specs.CertText.{cert_text};
-ghost use Rattle.rst_cert_reader.specs.Readings.{start, fed_all, finished, cert_of};
+ghost use Rattle.rst_cert_reader.specs.Readings.{cert_of};
+ghost use Rattle.rst_cert_reader.specs.Kept.{StandsFor};
 ghost use Rattle.rst_take.specs.Takes.{IsReadUnder, Takes};
 ghost use Rattle.rst_take.specs.Fronts.{HasRead, HasReadAll};
 
@@ -50,7 +51,7 @@ fn load_front<K: Desk>(
 // Feeds the reader so many bytes.
 fn feed_front(reader: &mut CertReader, room: &[u8], count: u32) -> Result<(), NoMemory>
     requires { count ≤ length room.now }
-    ensures { OnOk result (reader.new ≡ option_map (λ state. fed_all state (take count room.now)) reader.old) }
+    ensures { OnOk result ((text : List ℕ) → StandsFor reader.old text → StandsFor reader.new (text ++ take count room.now)) }
 {
     reader.feed(&room[..count as usize])
 }
@@ -109,7 +110,7 @@ fn take_pieces<K: Desk>(
 ) -> Result<(), LoadError>
     requires limit { limit ≤ 2 ^ 62 }
     requires room { length room.old ≡ 65536 }
-    requires reader { reader.old ≡ Some start }
+    requires reader { StandsFor reader.old [] }
     ensures all { OnOk result (HasReadAll name.now limit (K.files desk.old) reader.new) }
     ensures long { IsErrOf result LoadError.TooLong → IfSome (K.files desk.old) (IsLongUnder name.now limit) }
     ensures cause { IsErrOf result LoadError.Failed → Rose (K.load_faults desk.old) (K.load_faults desk.new) }
@@ -132,7 +133,7 @@ fn take_pieces<K: Desk>(
 
 // What the bytes are that the reader has read. Want of memory is a load's fault.
 fn taken(reader: CertReader) -> Result<Cert, TakeFault>
-    ensures { IfSome reader (λ state. Takes (finished state) result) }
+    ensures { (text : List ℕ) → StandsFor reader text → Takes (cert_of text) result }
 {
     match reader.finish() {
         Ok(cert) => Ok(cert),
