@@ -4,6 +4,8 @@
 #[cfg(test)]
 mod circuits;
 #[cfg(test)]
+mod digits;
+#[cfg(test)]
 mod gates;
 #[cfg(test)]
 mod laws;

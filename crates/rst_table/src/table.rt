@@ -27,7 +27,7 @@ fn written<T: Debug + Drop>(alloc: Global, answer: Option<T>) -> Result<String, 
     }
 }
 
-// The text that escapes stand for: `\n`, `\r` and `\t` as in a string.
+// The text that escapes stand for: `\n`, `\r`, `\t` and `\0` as in a string.
 fn unescaped(alloc: Global, text: &str) -> Result<String, AllocError> {
     let mut read = String::new(alloc);
     let mut escaped = false;
@@ -50,6 +50,7 @@ fn meant(letter: char) -> char {
         'n' => '\n',
         'r' => '\r',
         't' => '\t',
+        '0' => '\0',
         other => other,
     }
 }
@@ -64,14 +65,15 @@ fn note(wrong: &mut String, row: &str, found: &str) -> Result<(), AllocError> {
 
 /// Whether each row of a table has the answer that the call gives to what is asked there: text as `Debug` writes it, or `none`.
 ///
-/// Blanks around both are no part of them, and `\n`, `\r` and `\t` stand for what they do in a string. Empty lines are no rows, nor are
+/// Blanks around both are no part of them, and `\n`, `\r`, `\t` and `\0` stand for what they do in a string, and `\` and another
+/// letter for that letter. Empty lines are no rows, nor are
 /// those that begin with `//`.
 pub fn agree<T: Debug + Drop, F: FnMut(Global, &str) -> Option<T>>(
     alloc: Global,
     table: &str,
     mut answer: F,
 ) -> Result<(), Unlike>
-    requires { F.IsAlwaysCallable answer }
+    requires { (answer : _) (alloc : _) (asked : _) → F.pre answer alloc asked }
 {
     let mut wrong = String::new(alloc);
     let mut empty = true;
