@@ -11,11 +11,12 @@ fn lists(rt: HostRuntime) -> Result<(), Fail> {
     let mut bits = Bits::new(alloc);
     assert!(rt; bits.is_empty());
     bits.push(true)?;
-    assert!(rt; bits.len() == 1 && *bits.get(0));
+    bits.push(false)?;
+    assert!(rt; bits.len() == 2 && *bits.get(0));
     let mut sequence = Sequence::new(alloc);
     sequence.push(bits)?;
     assert!(rt; sequence.len() == 1);
-    assert!(rt; sequence.get(0).as_slice() == [true].as_slice());
+    assert!(rt; sequence.get(0).as_slice() == [true, false].as_slice());
     Ok(())
 }
 

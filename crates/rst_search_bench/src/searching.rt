@@ -1,7 +1,7 @@
 // The queries about guarded data, posed and answered one after another.
 use crate::guarded::{Blocked, all_blocked, blocked_by, land, split};
 use rst_check::refutes;
-use rst_clause::{ClauseStore, Clauses, Log};
+use rst_clause::{ClauseStore, Clauses};
 use rst_outside::NoMemory;
 use rst_solve::{Answer, solve};
 use std::alloc::Global;
@@ -30,6 +30,11 @@ impl Counts {
     }
 }
 
+// The answer to a query.
+fn answer(alloc: Global, query: &Clauses) -> Result<Box<Answer>, NoMemory> {
+    Ok(Box::new(alloc, solve(alloc, query, MOST_PATHS)?)?)
+}
+
 // Poses the query `land`. Whether it is refuted, and the checker confirms that.
 fn lands(
     alloc: Global,
@@ -38,22 +43,23 @@ fn lands(
     counts: &mut Counts,
 ) -> Result<bool, NoMemory> {
     let query = land(alloc, bits, blocked)?;
-    match solve(alloc, &query, MOST_PATHS)? {
+    let answer = answer(alloc, &query)?;
+    match &*answer {
         Answer::Refuted { log, paths } => {
             counts.add(paths.len());
-            refutes(alloc, &query, &log)
+            refutes(alloc, &query, log)
         }
         _ => Ok(false),
     }
 }
 
 /// What one more query says.
-#[derive(Drop)]
+#[derive(Clone, Copy)]
 pub(crate) enum Step {
     /// A set of pairs to block.
     Blocks(Blocked),
-    /// The query is refuted by this log.
-    Refuted(Clauses, Log),
+    /// The query is refuted, and whether the checker confirms that.
+    Refuted(bool),
     /// Neither.
     Neither,
 }
@@ -66,7 +72,8 @@ fn ask(
     counts: &mut Counts,
 ) -> Result<Step, NoMemory> {
     let query = split(alloc, bits, blocked)?;
-    match solve(alloc, &query, MOST_PATHS)? {
+    let answer = answer(alloc, &query)?;
+    match &*answer {
         Answer::Model { bits: model, paths } => {
             counts.add(paths.len().saturating_add(1));
             match blocked_by(bits, model.as_slice()) {
@@ -76,7 +83,7 @@ fn ask(
         }
         Answer::Refuted { log, paths } => {
             counts.add(paths.len());
-            Ok(Step::Refuted(query, log))
+            Ok(Step::Refuted(refutes(alloc, &query, log)?))
         }
         Answer::Spent { paths: _ } => Ok(Step::Neither),
     }
@@ -95,10 +102,9 @@ pub(crate) fn refine(alloc: Global, bits: u32) -> Result<Counts, NoMemory> {
     for _ in 0..MOST_PATHS {
         match ask(alloc, bits, &blocked, &mut counts)? {
             Step::Blocks(cube) => blocked.push(cube)?,
-            Step::Refuted(query, log) => {
+            Step::Refuted(confirmed) => {
                 counts.blocked = blocked.len();
-                let lands = lands(alloc, bits, &blocked, &mut counts)?;
-                counts.confirmed = lands && refutes(alloc, &query, &log)?;
+                counts.confirmed = lands(alloc, bits, &blocked, &mut counts)? && confirmed;
                 return Ok(counts);
             }
             Step::Neither => return Ok(counts),
@@ -113,28 +119,44 @@ fn last_query(alloc: Global, bits: u32) -> Result<Clauses, NoMemory> {
     split(alloc, bits, &blocked)
 }
 
+// The paths of an answer that refutes.
+fn paths_of(answer: &Answer) -> usize {
+    match answer {
+        Answer::Refuted { log: _, paths } => paths.len(),
+        _ => 0,
+    }
+}
+
 // Solves the last query so many times. The paths that it took each time.
 fn solve_last(alloc: Global, bits: u32, times: u32) -> Result<usize, NoMemory> {
     let query = last_query(alloc, bits)?;
     let mut taken = 0usize;
     for _ in 0..times {
-        if let Answer::Refuted { log: _, paths } = solve(alloc, &query, MOST_PATHS)? {
-            taken = paths.len();
-        }
+        let answer = answer(alloc, &query)?;
+        taken = paths_of(&answer);
     }
     Ok(taken)
+}
+
+// The lines of an answer's log where it refutes the query, and else 0.
+fn lines_of(alloc: Global, query: &Clauses, answer: &Answer) -> Result<usize, NoMemory> {
+    match answer {
+        Answer::Refuted { log, paths: _ } => {
+            let refuted = refutes(alloc, query, log)?;
+            Ok(if refuted { log.len() } else { 0 })
+        }
+        _ => Ok(0),
+    }
 }
 
 // Solves the last query once and replays its log so many times. The lines that the log has where
 // it refutes, and else 0.
 fn replay_last(alloc: Global, bits: u32, times: u32) -> Result<usize, NoMemory> {
     let query = last_query(alloc, bits)?;
+    let answer = answer(alloc, &query)?;
     let mut lines = 0usize;
-    if let Answer::Refuted { log, paths: _ } = solve(alloc, &query, MOST_PATHS)? {
-        for _ in 0..times {
-            let refuted = refutes(alloc, &query, &log)?;
-            lines = if refuted { log.len() } else { 0 };
-        }
+    for _ in 0..times {
+        lines = lines_of(alloc, &query, &answer)?;
     }
     Ok(lines)
 }
