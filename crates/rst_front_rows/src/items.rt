@@ -80,42 +80,37 @@ fn event_count(events: &Events) -> usize {
     }
 }
 
-// The kind of an item, with how many names, assignments, events or copies it has.
-#[derive(Clone, Copy, Debug)]
-enum Kind {
-    Input(usize),
-    Output(usize),
-    Wire(usize),
-    Reg(usize),
-    Parameter(usize),
-    Localparam(usize),
-    Assign(usize),
-    Always(usize),
-    Instance(usize),
+// The kind of an item, and how many names, assignments, events or copies it has.
+fn kind(item: &Item) -> (&'static str, usize) {
+    match item {
+        Item::Port(decl) if decl.input => ("input", decl.names.len()),
+        Item::Port(decl) => ("output", decl.names.len()),
+        Item::Net(decl) if decl.reg => ("reg", decl.names.len()),
+        Item::Net(decl) => ("wire", decl.names.len()),
+        Item::Params(decl) if decl.local => ("localparam", decl.names.len()),
+        Item::Params(decl) => ("parameter", decl.names.len()),
+        Item::Assign(assigns) => ("assign", assigns.len()),
+        Item::Always(always) => ("always", event_count(&always.events)),
+        Item::Instance(instance) => ("instance", instance.copies.len()),
+    }
 }
 
-fn kind(item: &Item) -> Kind {
-    match item {
-        Item::Port(decl) if decl.input => Kind::Input(decl.names.len()),
-        Item::Port(decl) => Kind::Output(decl.names.len()),
-        Item::Net(decl) if decl.reg => Kind::Reg(decl.names.len()),
-        Item::Net(decl) => Kind::Wire(decl.names.len()),
-        Item::Params(decl) if decl.local => Kind::Localparam(decl.names.len()),
-        Item::Params(decl) => Kind::Parameter(decl.names.len()),
-        Item::Assign(assigns) => Kind::Assign(assigns.len()),
-        Item::Always(always) => Kind::Always(event_count(&always.events)),
-        Item::Instance(instance) => Kind::Instance(instance.copies.len()),
-    }
+fn put_kind(alloc: Global, told: &mut String, item: &Item) -> Result<(), AllocError> {
+    let (word, count) = kind(item);
+    told.push_str(word)?;
+    told.push(' ')?;
+    told.push_str(count.to_string(alloc)?.as_str())?;
+    told.push(' ')
 }
 
 // The items of a module, by their kinds.
-fn kinds(alloc: Global, text: &str) -> Option<Vec<Kind>> {
+fn kinds(alloc: Global, text: &str) -> Option<String> {
     let source = source_of(alloc, text)?;
-    let mut found = Vec::new(alloc);
+    let mut told = String::new(alloc);
     for item in &only_module(&source)?.items {
-        found.push(kind(item)).ok()?;
+        put_kind(alloc, &mut told, item).ok()?;
     }
-    Some(found)
+    Some(told)
 }
 
 const ITEMS: &str = "
@@ -127,8 +122,8 @@ const ITEMS: &str = "
         always @* ; always @(*) begin end \
         n #(4, 5) x(a), y(.d(b), .e()); n z(); \
         endmodule \
-        => [Input(1), Output(2), Wire(2), Reg(3), Parameter(1), Localparam(2), \
-            Assign(2), Always(3), Always(0), Always(0), Instance(2), Instance(1)]
+        => \"input 1 output 2 wire 2 reg 3 parameter 1 localparam 2 \
+            assign 2 always 3 always 0 always 0 instance 2 instance 1 \"
 ";
 
 #[test]
