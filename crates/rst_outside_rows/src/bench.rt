@@ -71,38 +71,31 @@ pub(crate) fn read_in_pieces<K: Desk>(
     Err(Failed)
 }
 
-/// What a call answers.
-#[derive(Debug, Drop)]
-pub(crate) enum Answer {
-    Done,
-    Failed,
-    TooLong,
-    Bytes(String),
-}
+/// What a call answers: the bytes that it gives, none where it gives none.
+pub(crate) type Answer = Result<String, LoadError>;
 
 fn bytes(alloc: Global, bytes: &[u8]) -> Option<Answer> {
     let text = str::from_utf8(bytes).ok()?;
-    Some(Answer::Bytes(String::from_str(alloc, text).ok()?))
+    Some(Ok(String::from_str(alloc, text).ok()?))
 }
 
-/// Done, or failed.
-pub(crate) fn done<E: Drop>(called: Result<(), E>) -> Answer {
-    match called {
-        Ok(()) => Answer::Done,
-        Err(_) => Answer::Failed,
+/// The answer of a call that gives no bytes.
+pub(crate) fn done(alloc: Global, succeeded: bool) -> Answer {
+    if succeeded {
+        Ok(String::new(alloc))
+    } else {
+        Err(LoadError::Failed)
     }
 }
 
-fn load<K: Desk>(alloc: Global, desk: &mut K, name: &str, limit: u64) -> Option<Answer> {
-    match desk.load(alloc, name, limit) {
+fn load<K: Desk>(alloc: Global, desk: &mut K, name: &str, limit: u32) -> Option<Answer> {
+    match desk.load(alloc, name, u64::from(limit)) {
         Ok(found) => bytes(alloc, &found),
-        Err(LoadError::TooLong) => Some(Answer::TooLong),
-        Err(LoadError::Failed) => Some(Answer::Failed),
-        Err(LoadError::NoMemory) => None,
+        Err(error) => Some(Err(error)),
     }
 }
 
-// A piece of at most so many bytes, and nine.
+// A piece of at most so many bytes: 1 to 9.
 fn piece<K: Desk>(
     alloc: Global,
     desk: &mut K,
@@ -111,10 +104,10 @@ fn piece<K: Desk>(
     room: usize,
 ) -> Option<Answer> {
     let mut into = [0u8; 9];
-    let into = &mut into[..room.min(9)];
+    let into = &mut into[..room.max(1).min(9)];
     match desk.load_piece(name, from, into) {
         Ok(count) => bytes(alloc, into.get(..count as usize)?),
-        Err(Failed) => Some(Answer::Failed),
+        Err(Failed) => Some(Err(LoadError::Failed)),
     }
 }
 
@@ -128,11 +121,10 @@ fn place(words: &str) -> Option<(u64, usize)> {
 
 // A word, the name and what stands behind it.
 fn parts(row: &str) -> Option<(&str, &str, &str)> {
-    let (call, rest) = row.split_once(" ")?;
-    match rest.split_once(" ") {
-        Some((name, behind)) => Some((call, name, behind)),
-        None => Some((call, rest, "")),
-    }
+    let mut parts = row.splitn(3, ' ');
+    let call = parts.next()?;
+    let name = parts.next()?;
+    Some((call, name, parts.next().unwrap_or("")))
 }
 
 /// Calls a desk: `first NAME BYTES` and `next NAME BYTES` save a piece, `load NAME LIMIT` loads a file, and `piece NAME FROM` or
@@ -140,9 +132,9 @@ fn parts(row: &str) -> Option<(&str, &str, &str)> {
 pub(crate) fn call<K: Desk>(alloc: Global, desk: &mut K, row: &str) -> Option<Answer> {
     let (call, name, rest) = parts(row)?;
     match call {
-        "first" => Some(done(desk.save_piece(name, true, rest.as_bytes()))),
-        "next" => Some(done(desk.save_piece(name, false, rest.as_bytes()))),
-        "load" => load(alloc, desk, name, rest.parse::<u64>().ok()?),
+        "first" => Some(done(alloc, desk.save_piece(name, true, rest.as_bytes()).is_ok())),
+        "next" => Some(done(alloc, desk.save_piece(name, false, rest.as_bytes()).is_ok())),
+        "load" => load(alloc, desk, name, rest.parse::<u32>().ok()?),
         "piece" => {
             let (from, room) = place(rest)?;
             piece(alloc, desk, name, from, room)
@@ -184,7 +176,7 @@ impl Kept for SureDesk {
 pub(crate) fn kept_call<K: Kept>(alloc: Global, desk: &mut K, row: &str) -> Option<Answer> {
     let (word, name, rest) = parts(row)?;
     match word {
-        "room" => Some(done(desk.room(name, rest.parse::<u64>().ok()?))),
+        "room" => Some(done(alloc, desk.room(name, rest.parse::<u64>().ok()?).is_ok())),
         "file" => bytes(alloc, desk.under(name)?),
         _ => call(alloc, desk, row),
     }

@@ -15,15 +15,16 @@ const CALLS: &str = "\
     next c 6
     piece b 0 4";
 
+fn mark(succeeded: bool) -> char {
+    if succeeded { '+' } else { '-' }
+}
+
 // The calls, `+` for each that succeeded and `-` for each that failed.
 fn outcomes<K: Desk>(alloc: Global, desk: &mut K) -> Option<String> {
     let mut outcomes = String::new(alloc);
     for row in CALLS.lines() {
-        let mark = match call(alloc, desk, row.trim())? {
-            Answer::Failed => '-',
-            _ => '+',
-        };
-        outcomes.push(mark).ok()?;
+        let answer = call(alloc, desk, row.trim())?;
+        outcomes.push(mark(answer.is_ok())).ok()?;
     }
     Some(outcomes)
 }
@@ -61,13 +62,10 @@ fn a_desk_fails_at_the_call_that_it_is_told(rt: HostRuntime) -> Result<(), Unlik
 // Three numbered puts, `+` for each that succeeded and `-` for each that failed.
 fn three_puts<S: Sink>(alloc: Global, sink: &mut S) -> Option<String> {
     let mut outcomes = String::new(alloc);
-    for piece in ["ab", "", "cde"] {
-        let mark = if sink.put(piece.as_bytes()).is_ok() {
-            '+'
-        } else {
-            '-'
-        };
-        outcomes.push(mark).ok()?;
+    for piece in "ab,,cde".split(',') {
+        outcomes
+            .push(mark(sink.put(piece.as_bytes()).is_ok()))
+            .ok()?;
     }
     Some(outcomes)
 }
@@ -94,14 +92,14 @@ fn a_sink_fails_at_the_put_that_it_is_told(rt: HostRuntime) -> Result<(), Unlike
 }
 
 const SURE_DESK: &str = r#"
-    load a 3     => Bytes("abc")
-    load a 2     => TooLong
-    load no 3    => Failed
-    first c      => Failed
-    room c 3     => Done
-    first c 1234 => Failed
-    first c 123  => Done
-    file c       => Bytes("123")
+    load a 3     => Ok("abc")
+    load a 2     => Err(TooLong)
+    load no 3    => Err(Failed)
+    first c      => Err(Failed)
+    room c 3     => Ok("")
+    first c 1234 => Err(Failed)
+    first c 123  => Ok("")
+    file c       => Ok("123")
 "#;
 
 #[test]
@@ -118,20 +116,23 @@ fn a_sure_desk_fails_only_without_a_file_or_without_room(rt: HostRuntime) -> Res
 
 // A call of a sink: `put BYTES`, `room` for three bytes, and all that was `taken`.
 fn sink_call(alloc: Global, sink: &mut SureSink, row: &str) -> Option<Answer> {
-    match row.split_once(" ") {
-        Some((_, piece)) => Some(done(sink.put(piece.as_bytes()))),
-        None if row == "room" => Some(done(sink.reserve(3))),
-        None => Some(Answer::Bytes(owned(alloc, sink.taken())?)),
+    match row {
+        "room" => Some(done(alloc, sink.reserve(3).is_ok())),
+        "taken" => Some(Ok(owned(alloc, sink.taken())?)),
+        _ => {
+            let piece = row.strip_prefix("put ")?;
+            Some(done(alloc, sink.put(piece.as_bytes()).is_ok()))
+        }
     }
 }
 
 const SURE_SINK: &str = r#"
-    put x  => Failed
-    room   => Done
-    put xy => Done
-    put zz => Failed
-    put z  => Done
-    taken  => Bytes("xyz")
+    put x  => Err(Failed)
+    room   => Ok("")
+    put xy => Ok("")
+    put zz => Err(Failed)
+    put z  => Ok("")
+    taken  => Ok("xyz")
 "#;
 
 #[test]

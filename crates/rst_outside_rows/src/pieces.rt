@@ -7,16 +7,25 @@ use std::test::Fail;
 
 const LENGTH: u32 = 70_000;
 
-// Whether a text stands where it was saved in pieces of a size, and is read back in pieces of that size.
+// Whether a text stands where it is saved in pieces of a size, and is read back in pieces of that size.
+fn saved_and_read(
+    alloc: Global,
+    desk: &mut SureDesk,
+    text: &[u8],
+    size: usize,
+) -> Option<(bool, bool)> {
+    save_in_pieces(desk, "c", text, size).ok()?;
+    let stands = desk.file("c") == Some(text);
+    let back = read_in_pieces(alloc, desk, "c", size).ok()?;
+    Some((stands, back.as_slice() == text))
+}
+
 fn reads_back(alloc: Global, size: &str) -> Option<(bool, bool)> {
     let size = size.parse::<usize>().ok()?;
     let text = long_text(alloc, LENGTH).ok()?;
     let mut desk = SureDesk::new(alloc, two_files(alloc).ok()?);
     desk.reserve("c", u64::from(LENGTH)).ok()?;
-    save_in_pieces(&mut desk, "c", &text, size).ok()?;
-    let stands = desk.file("c") == Some(text.as_slice());
-    let back = read_in_pieces(alloc, &mut desk, "c", size).ok()?;
-    Some((stands, back.as_slice() == text.as_slice()))
+    saved_and_read(alloc, &mut desk, &text, size)
 }
 
 const SIZES: &str = "
@@ -32,17 +41,17 @@ fn reads_back_what_was_saved_in_pieces(rt: HostRuntime) -> Result<(), Fail> {
 }
 
 const STEPS: &str = r#"
-    room a 8     => Done
-    next a de    => Done
-    file a       => Bytes("abcde")
-    next a       => Done
-    file a       => Bytes("abcde")
-    first a xyz  => Done
-    file a       => Bytes("xyz")
-    next a 1234  => Failed
-    file a       => Bytes("xyz")
-    next a 123   => Done
-    file a       => Bytes("xyz123")
+    room a 8     => Ok("")
+    next a de    => Ok("")
+    file a       => Ok("abcde")
+    next a       => Ok("")
+    file a       => Ok("abcde")
+    first a xyz  => Ok("")
+    file a       => Ok("xyz")
+    next a 1234  => Err(Failed)
+    file a       => Ok("xyz")
+    next a 123   => Ok("")
+    file a       => Ok("xyz123")
 "#;
 
 #[test]
@@ -54,14 +63,14 @@ fn a_piece_goes_behind_what_stands_there(rt: HostRuntime) -> Result<(), Fail> {
 }
 
 const ROOMS: &str = r#"
-    next a      => Failed
-    room a 8    => Done
-    first a xyz => Done
-    room c 2    => Done
-    next a 1    => Failed
-    next c 12   => Done
-    file a      => Bytes("xyz")
-    file c      => Bytes("12")
+    next a      => Err(Failed)
+    room a 8    => Ok("")
+    first a xyz => Ok("")
+    room c 2    => Ok("")
+    next a 1    => Err(Failed)
+    next c 12   => Ok("")
+    file a      => Ok("xyz")
+    file c      => Ok("12")
 "#;
 
 #[test]
@@ -73,14 +82,14 @@ fn there_is_room_for_one_name(rt: HostRuntime) -> Result<(), Fail> {
 }
 
 const PIECES: &str = r#"
-    piece a 0  => Bytes("abc")
-    piece a 2  => Bytes("c")
-    piece a 3  => Bytes("")
-    piece a 18446744073709551615 => Bytes("")
-    piece b 0  => Bytes("")
-    piece no 0 => Failed
+    piece a 0  => Ok("abc")
+    piece a 2  => Ok("c")
+    piece a 3  => Ok("")
+    piece a 18446744073709551615 => Ok("")
+    piece b 0  => Ok("")
+    piece no 0 => Err(Failed)
     // Two bytes of room.
-    piece a 0 2 => Bytes("ab")
+    piece a 0 2 => Ok("ab")
 "#;
 
 #[test]
