@@ -12,8 +12,7 @@ use Rattle.rst_lex.specs.declared.lexer.LexFault.TheVariants as faults
 use Rattle.rst_lex.specs.declared.token.TokenKind.{TokenKind}
 use Rattle.rst_lex.specs.declared.token.Token.{Token}
 use Rattle.rst_lex.specs.Gaps.{IsGap}
-use Rattle.rst_lex.specs.Small.{InOrder}
-use Rattle.rst_lex.specs.Tokens.{IsToken, token_text}
+use Rattle.rst_lex.specs.Tokens.{IsToken, token_text, InOrder}
 use Rattle.rst_lex.specs.Lexing.{Answer, with_token, fault_at, Lexes, done, gap, token, fault, bad_byte, Reads, IsTokenOf}
 use Rattle.rst_lex.specs.Pieces.{IsPiece}
 use Rattle.rst_lex.proofs.Shapes.{no_empty_token}

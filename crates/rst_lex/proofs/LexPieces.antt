@@ -21,7 +21,7 @@ use Rattle.rst_lex.specs.Pieces.{IsBasedAnswer, IsPiece, IsBasedPiece}
 use Rattle.rst_lex.proofs.Shapes.{run_longest, same_front, same_begins}
 use Rattle.rst_lex.proofs.Numbers.{digits_each, same_parts, based_behind, length_based, based_parts}
 use Rattle.rst_lex.proofs.LexFronts.{WordSays, BasedSays}
-use Rattle.rst_lex.proofs.SmallPieces.{make_name}
+use Rattle.rst_lex.proofs.Names.{make_name}
 
 -- the bytes that a front says are those that the code takes
 taken : (text bs rest : List ℕ) (n : ℕ) → text ≡ bs ++ rest → length bs ≡ n → take n text ≡ bs

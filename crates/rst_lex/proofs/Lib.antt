@@ -1,7 +1,7 @@
 mod MarkShapes
 mod Shapes
-mod SmallPieces
-mod SmallLoop
+mod Names
+mod Literals
 mod Close
 mod GapFronts
 mod Sounds

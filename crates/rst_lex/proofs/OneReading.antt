@@ -20,8 +20,8 @@ use Rattle.rst_lex.specs.Lexing.{IsBasedText, IsNoNumber, IsFault, block, attrib
 use Rattle.rst_lex.proofs.Shapes.{same_begins, no_empty_token, identifier_head, mark_head, system_head, based_head, no_based, parts_head}
 use Rattle.rst_lex.proofs.GapFronts.{no_empty_gap}
 use Rattle.rst_lex.proofs.Sounds.{begins_number, begins_cause, fault_head}
-use Rattle.rst_lex.proofs.SmallPieces.{name_identifier, name_no_keyword}
-use Rattle.rst_lex.proofs.SmallLoop.{same_literal}
+use Rattle.rst_lex.proofs.Names.{name_identifier, name_no_keyword}
+use Rattle.rst_lex.proofs.Literals.{same_literal}
 use Rattle.rst_lex.proofs.Numbers.{OneHead, based_parts, Splits, same_parts, head_is, quote_is, run_len, based_behind}
 
 abbrev err_of : Cause → ℕ → Answer

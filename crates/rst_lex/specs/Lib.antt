@@ -1,4 +1,4 @@
--- To know what `lex`, `lex_small`, `line_of` and the laws promise, believe these, lowest first.
+-- To know what `lex`, `line_of` and the laws promise, believe these, lowest first.
 pub mod Bytes
 pub mod Lines
 pub mod Words
@@ -8,9 +8,7 @@ pub mod Literals
 pub mod Gaps
 pub mod Tokens
 pub mod Lexing
-pub mod Small
 -- The others are words of the proofs: what the code finds at the front of a text. No public clause names them.
 pub mod MarkFronts
 pub mod Fronts
-pub mod SmallFronts
 pub mod Pieces

@@ -1,20 +1,15 @@
 -- What the code finds at the front of a text, before it goes on behind it.
-use Rattle.std.specs.Prelude.{◌≡◌, ℕ, ◌<◌, Bool, List, ◌∷◌, length, IsTrue, ◌⊎◌, Result, Ok, Err, nat_lt}
+use Rattle.std.specs.Prelude.{◌≡◌, ℕ, ◌<◌, Bool, List, length, ◌⊎◌, Result, Ok, Err, nat_lt}
 use Rattle.rst_lex.specs.declared.front.Tail.{Tail}
 use Rattle.rst_lex.specs.declared.front.Cause.{Cause}
 use Rattle.rst_lex.specs.declared.front.Cause.TheVariants as causes
 use Rattle.rst_lex.specs.declared.piece.Piece.{Piece}
 use Rattle.rst_lex.specs.declared.piece.Piece.TheVariants as pieces
-use Rattle.rst_lex.specs.declared.small.SmallPiece.{SmallPiece}
-use Rattle.rst_lex.specs.declared.small.SmallPiece.TheVariants as small
 use Rattle.rst_lex.specs.declared.token.Literal.{Literal}
-use Rattle.rst_lex.specs.declared.token.Token.{Token}
 use Rattle.rst_lex.specs.declared.token.TokenKind.TheVariants as kinds
-use Rattle.rst_lex.specs.Bytes.{is_blank}
 use Rattle.rst_lex.specs.Literals.{width_of, LiteralOf, IsNone}
 use Rattle.rst_lex.specs.Gaps.{IsGap}
 use Rattle.rst_lex.specs.Tokens.{IsToken, Begins}
-use Rattle.rst_lex.specs.Small.{IsSmallTokenOf, SmallTokensFrom}
 use Rattle.rst_lex.specs.Lexing.{Nowhere, IsFault, IsSound, IsTokenOf}
 
 -- the literal of these parts, or why they are none
@@ -37,9 +32,3 @@ abbrev pub IsBasedPiece : Piece → List ℕ → Tail → List ℕ → ℕ → T
 IsBasedPiece (pieces.Token (kinds.Number literal) len) size tail digits count = (len ≡ count) × IsBasedAnswer (Ok literal) size (nat_lt 0 tail.sign) tail.letter digits
 IsBasedPiece (pieces.Fault cause) size tail digits count = IsBasedAnswer (Err cause) size (nat_lt 0 tail.sign) tail.letter digits
 IsBasedPiece piece size tail digits count = ⊥
-
--- What the small form has at the front of a text: a blank, a token and how many bytes it has, or nothing.
-abbrev pub IsSmallPiece : SmallPiece → List ℕ → Type 0
-IsSmallPiece small.Blank text = (b : ℕ) × (rest : List ℕ) × (text ≡ b ∷ rest) × IsTrue (is_blank b)
-IsSmallPiece (small.Token kind len) text = (bs : List ℕ) × (rest : List ℕ) × Begins IsToken text bs rest × IsSmallTokenOf kind bs × (length bs ≡ len)
-IsSmallPiece small.Other text = (at : ℕ) (tokens : List Token) → SmallTokensFrom at text tokens → ⊥

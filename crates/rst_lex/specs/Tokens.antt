@@ -1,5 +1,5 @@
 -- The texts of tokens, and how a text begins with one.
-use Rattle.std.specs.Prelude.{◌≡◌, ℕ, ◌≤◌, List, [], ◌∷◌, ◌++◌, length, slice_range}
+use Rattle.std.specs.Prelude.{◌≡◌, ℕ, ◌≤◌, ◌<◌, List, [], ◌∷◌, ◌++◌, length, slice_range}
 use Prim.Native.Char.{code}
 use Rattle.rst_lex.specs.declared.token.Token.{Token}
 use Rattle.rst_lex.specs.Bytes.{is_name_byte, EachByte}
@@ -30,3 +30,8 @@ pub record Begins (Kind : List ℕ → Type 0) (text bs rest : List ℕ) : Type 
 -- the bytes of a token
 abbrev pub token_text : List ℕ → Token → List ℕ
 token_text text token = slice_range text token.start token.end
+
+-- The tokens stand in order and apart, from this place on and within the length.
+abbrev pub InOrder : ℕ → ℕ → List Token → Type 0
+InOrder from len [] = from ≤ len
+InOrder from len (first ∷ tokens) = (from ≤ first.start) × (first.start < first.end) × InOrder first.end len tokens

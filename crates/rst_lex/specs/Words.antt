@@ -28,14 +28,6 @@ refused_keywords = codes "and" ∷ codes "automatic" ∷ codes "buf" ∷ codes "
     ∷ codes "wait" ∷ codes "wand" ∷ codes "weak0" ∷ codes "weak1" ∷ codes "while" ∷ codes "wor"
     ∷ codes "xnor" ∷ codes "xor" ∷ []
 
--- the keywords of the small form
-abbrev pub small_keywords : List (List ℕ)
-small_keywords = codes "module" ∷ codes "endmodule" ∷ codes "input" ∷ codes "output" ∷ codes "reg" ∷ codes "always" ∷ codes "posedge" ∷ codes "if" ∷ codes "else" ∷ []
-
--- the marks of the small form
-abbrev pub small_marks : List (List ℕ)
-small_marks = codes "(" ∷ codes ")" ∷ codes "," ∷ codes ";" ∷ codes "@" ∷ codes "<=" ∷ codes "~" ∷ []
-
 -- the bytes are one of the words
 abbrev pub is_listed : List (List ℕ) → List ℕ → Bool
 is_listed words bytes = list_any (λ word. bytes_eq word bytes) words
@@ -50,14 +42,6 @@ is_refused_keyword bytes = is_listed refused_keywords bytes
 
 abbrev pub is_keyword : List ℕ → Bool
 is_keyword bytes = is_profile_keyword bytes || is_refused_keyword bytes
-
--- a keyword of the small form
-unfoldable pub is_small_keyword : List ℕ → Bool
-is_small_keyword bytes = is_listed small_keywords bytes
-
--- a mark of the small form
-unfoldable pub is_small_mark : List ℕ → Bool
-is_small_mark bytes = is_listed small_marks bytes
 
 -- An identifier is a letter or _, and then letters, digits, _ and $.
 abbrev pub is_identifier : List ℕ → Bool

@@ -1,22 +1,13 @@
 //! Laws of tokens, over the definitions alone.
 ghost use Rattle.std.specs.Prelude.{◌≡◌, ℕ, List, map};
-ghost use Rattle.rst_lex.specs.declared.token.Token.{Token};
 ghost use Rattle.rst_lex.specs.Lexing.{Answer, Reads};
-ghost use Rattle.rst_lex.specs.Small.{SmallTokens};
-ghost use Rattle.rst_lex.specs.Words.{keywords, refused_keywords, small_keywords, small_marks};
-ghost use Rattle.rst_lex.specs.declared.words.TheConstants.{KEYWORDS, REFUSED_KEYWORDS, SMALL_KEYWORDS, SMALL_MARKS};
-
-/// A text is at most one list of tokens of the small form.
-pub fn one_small_list()
-    ensures { (text : List ℕ) (a b : List Token) → SmallTokens text a → SmallTokens text b → a ≡ b }
-{}
+ghost use Rattle.rst_lex.specs.Words.{keywords, refused_keywords};
+ghost use Rattle.rst_lex.specs.declared.words.TheConstants.{KEYWORDS, REFUSED_KEYWORDS};
 
 /// The lists of words that this crate gives out are those of the definitions.
 pub fn word_lists()
     ensures keywords { map (λ word. word.now) KEYWORDS ≡ keywords }
     ensures refused_keywords { map (λ word. word.now) REFUSED_KEYWORDS ≡ refused_keywords }
-    ensures small_keywords { map (λ word. word.now) SMALL_KEYWORDS ≡ small_keywords }
-    ensures small_marks { map (λ word. word.now) SMALL_MARKS ≡ small_marks }
 {}
 
 /// Every text is read in some way: it has a list of tokens, or a first fault.

@@ -1,8 +1,7 @@
 //! The tokens of a whole text.
 ghost use Rattle.std.specs.Prelude.{◌≡◌, ◌≢◌, ◌≤◌, ◌<◌, length, IfOk, IfErr, IfSome, Some, Ok, Err, All};
 ghost use Rattle.rst_lex.specs.declared.lexer.LexFault.TheVariants.{NoMemory};
-ghost use Rattle.rst_lex.specs.Tokens.{token_text};
-ghost use Rattle.rst_lex.specs.Small.{InOrder};
+ghost use Rattle.rst_lex.specs.Tokens.{token_text, InOrder};
 ghost use Rattle.rst_lex.specs.Lexing.{Reads, fault_at, place_of, IsTokenOf};
 
 use crate::front::Cause;

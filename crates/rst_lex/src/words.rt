@@ -1,8 +1,8 @@
-//! Words and marks that have a meaning of their own.
+//! Words that have a meaning of their own.
 ghost use Rattle.std.specs.Prelude.{◌≡◌, bytes_eq};
 ghost use Rattle.std.specs.List.{list_any, list_all};
 ghost use Rattle.rst_lex.specs.Bytes.{is_name_byte};
-ghost use Rattle.rst_lex.specs.Words.{is_profile_keyword, is_refused_keyword, is_keyword, is_small_keyword, is_small_mark, is_identifier, is_name};
+ghost use Rattle.rst_lex.specs.Words.{is_profile_keyword, is_refused_keyword, is_keyword, is_identifier, is_name};
 
 use crate::bytes::{is_name_byte, is_name_start};
 
@@ -122,22 +122,6 @@ pub const REFUSED_KEYWORDS: [&str; 86] = [
     "xor",
 ];
 
-/// The keywords of the first path's small grammar.
-pub const SMALL_KEYWORDS: [&str; 9] = [
-    "module",
-    "endmodule",
-    "input",
-    "output",
-    "reg",
-    "always",
-    "posedge",
-    "if",
-    "else",
-];
-
-/// The marks of the first path's small grammar.
-pub const SMALL_MARKS: [&str; 7] = ["(", ")", ",", ";", "@", "<=", "~"];
-
 fn is_listed(words: &[&str], bytes: &[u8]) -> bool
     ensures { result ≡ list_any (λ word. bytes_eq word.now bytes.now) words.now }
 {
@@ -154,18 +138,6 @@ fn is_refused_keyword(bytes: &[u8]) -> bool
     ensures { result ≡ is_refused_keyword bytes.now }
 {
     is_listed(&REFUSED_KEYWORDS, bytes)
-}
-
-pub(crate) fn is_small_keyword(bytes: &[u8]) -> bool
-    ensures { result ≡ is_small_keyword bytes.now }
-{
-    is_listed(&SMALL_KEYWORDS, bytes)
-}
-
-pub(crate) fn is_small_mark(bytes: &[u8]) -> bool
-    ensures { result ≡ is_small_mark bytes.now }
-{
-    is_listed(&SMALL_MARKS, bytes)
 }
 
 /// Whether the bytes are a keyword: one of the profile, or one that it refuses.

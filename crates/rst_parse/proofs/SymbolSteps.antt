@@ -3,7 +3,7 @@ use Rattle.std.proofs.Common.{◌≡◌, ℕ, zero, suc, ◌+◌, ◌<◌, ◌�
 use Rattle.std.specs.List.{position_from}
 use Rattle.std.proofs.lemmas.List.{at_drop_more, take_more, map-append, nil_from_length, length-map}
 use Rattle.rst_lex.specs.declared.token.Token.{Token}
-use Rattle.rst_lex.specs.Small.{InOrder}
+use Rattle.rst_lex.specs.Tokens.{InOrder}
 use Rattle.rst_grammar.specs.declared.symbol.Symbol.{Symbol}
 use Rattle.rst_parse.specs.Symbols.{is_refused_token, first_refused, token_symbol, AreSymbols}
 

@@ -3,8 +3,7 @@
 ghost use Rattle.std.specs.Prelude.{◌≡◌, ◌≢◌, ◌≤◌, length, IfOk, IfErr, Some, None};
 ghost use Rattle.std.specs.List.{All};
 ghost use Rattle.std.specs.Option.{is_none, option_map};
-ghost use Rattle.rst_lex.specs.Tokens.{token_text};
-ghost use Rattle.rst_lex.specs.Small.{InOrder};
+ghost use Rattle.rst_lex.specs.Tokens.{token_text, InOrder};
 ghost use Rattle.rst_lex.specs.Lexing.{IsTokenOf};
 ghost use Rattle.rst_parse.specs.declared.parser.ParseFault.TheVariants.{NoMemory};
 ghost use Rattle.rst_parse.specs.Symbols.{is_refused, first_refused, terminal_symbol, symbol_of, AreSymbols};

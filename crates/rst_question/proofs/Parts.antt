@@ -19,19 +19,20 @@ use Rattle.rst_question.specs.declared.question.Question as read
 use Rattle.rst_question.specs.Questions.{Question, ScriptGives, PlacedDesign, FitGives, QuestionGives, input_ports, question_of, IsRead}
 
 -- what the code read is the question that the texts ask
-pub read_of : (places : Places) (top script : Text) (sources : List Text) (q : read.Question) → ScriptGives places.script script (Ok (plain_script q.script))
-    → IsNetlistOf sources top (plain_script q.script).clock q.net → q.inputs ≡ ports_with role.Input (plain_net q.net).signals
-    → FitGives places.script q.inputs (plain_script q.script) (Ok q.pattern) → IsRead places top script sources q
-read_of places top script sources q said n inputs fits =
+pub read_of : (places : Places) (top script : Text) (sources : List Text) (q : read.Question) (ports : List PortBits)
+    → ScriptGives places.script script (Ok (plain_script q.script)) → IsNetlistOf sources top (plain_script q.script).clock q.net
+    → ports ≡ ports_with role.Input (plain_net q.net).signals → FitGives places.script ports (plain_script q.script) (Ok q.pattern)
+    → IsRead places top script sources q
+read_of places top script sources q ports said n inputs fits =
     let ordered : Ordered = with_order n.flat n.made.order in
     let parts = netlist_parts sources top (plain_script q.script).clock q.net n in
-    let ports : q.inputs ≡ input_ports n.flat = inputs ∙ ap (ports_with role.Input) n.made.signals in
+    let same : ports ≡ input_ports n.flat = inputs ∙ ap (ports_with role.Input) n.made.signals in
     let fitted : FitGives places.script (input_ports n.flat) (plain_script q.script) (Ok q.pattern) =
-    subst (λ (p : List PortBits). FitGives places.script p (plain_script q.script) (Ok q.pattern)) ports fits in
+    subst (λ (p : List PortBits). FitGives places.script p (plain_script q.script) (Ok q.pattern)) same fits in
     record {
       question = question_of (plain_script q.script) ordered q.pattern;
       asked = goes_on (plain_script q.script) said (goes_on ordered (netlist_gives sources top (plain_script q.script).clock q.net n) (goes_on q.pattern fitted refl));
-      stands = record { script = refl; inputs = ports; pattern = refl; net = parts };
+      stands = record { script = refl; pattern = refl; net = parts };
     }
 
 -- a step that stops stops the chain

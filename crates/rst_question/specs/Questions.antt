@@ -71,7 +71,6 @@ QuestionGives places top script sources =
 -- a question of the code has these parts
 pub record Stands (question : Question) (q : read.Question) : Type 0 where
   pub script : plain_script q.script ≡ question.script
-  pub inputs : q.inputs ≡ input_ports question.flat
   pub pattern : q.pattern ≡ question.pattern
   pub net : plain_net q.net ≡ netlist question
 

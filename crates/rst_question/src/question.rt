@@ -1,7 +1,6 @@
 // Questions.
 use rst_flow::Net;
 use rst_gate::Pattern;
-use rst_ports::Ports;
 use rst_script::Script;
 
 /// Where the words of the files stand, among the command's words, from 0.
@@ -19,8 +18,6 @@ pub struct Question {
     pub script: Script,
     /// The design's netlist.
     pub net: Net,
-    /// The design's inputs without the clock.
-    pub inputs: Ports,
     /// The inputs of the script's clock cycles.
     pub pattern: Pattern,
 }

@@ -131,7 +131,6 @@ pub fn read_question(
     Ok(Question {
         script: said,
         net,
-        inputs: ports,
         pattern,
     })
 }
