@@ -1,6 +1,6 @@
 // Tokens of texts, and the texts that have none.
 use crate::texts::tokens_of;
-use rst_lex::{LexFault, Literal, TokenKind, is_keyword, is_name, lex, lex_small, line_of};
+use rst_lex::{LexFault, TokenKind, is_keyword, is_name, line_of};
 use rst_table::{Unlike, agree};
 use std::alloc::Global;
 
@@ -86,64 +86,6 @@ const COUNTS: &str = r"
 #[test]
 fn counts(rt: HostRuntime) -> Result<(), Unlike> {
     agree(rt.alloc(), COUNTS, count_of)
-}
-
-// Whether a token is a name, a mark or the bit 0.
-fn small_token(kind: TokenKind) -> &'static str {
-    match kind {
-        TokenKind::Name => "name",
-        TokenKind::Mark => "mark",
-        TokenKind::Number(
-            Literal {
-                width: 1,
-                signed: false,
-                value: 0,
-                mask: 0,
-                ..
-            },
-        ) => "bit 0",
-        _ => "another",
-    }
-}
-
-// The tokens of a text of the small form, each with its first byte and the first behind it.
-fn small_form(alloc: Global, text: &str) -> Option<Option<Vec<(&'static str, u32, u32)>>> {
-    if text.len() > 1_048_576 {
-        return None;
-    }
-    let Some(tokens) = lex_small(alloc, text.as_bytes()).ok()? else {
-        return Some(None);
-    };
-    let mut found = Vec::new(alloc);
-    for token in &tokens {
-        found
-            .push((small_token(token.kind), token.start, token.end))
-            .ok()?;
-    }
-    Some(Some(found))
-}
-
-const SMALL_FORMS: &str = r#"
-    q <=\t1'b0;\n => Some([("name", 0, 1), ("mark", 2, 4), ("bit 0", 5, 9), ("mark", 9, 10)])
-    a < b   => None
-    a <<= b => None
-    1'b01   => None
-    1'b0_   => None
-    1'b0?   => None
-    1 'b0   => None
-    a1'b0   => None
-    ~^      => None
-    and     => None
-    wire    => None
-    a//b    => None
-    a\r     => None
-    2       => None
-    1'B0    => None
-"#;
-
-#[test]
-fn tokens_of_the_small_form(rt: HostRuntime) -> Result<(), Unlike> {
-    agree(rt.alloc(), SMALL_FORMS, small_form)
 }
 
 // Whether a text is a name, and whether it is a keyword.
