@@ -1,7 +1,7 @@
 // Bits and places as digits.
 use rst_gate::{Bits, Cube};
 use rst_value::Tern;
-use std::alloc::Global;
+use std::alloc::{AllocError, Global};
 
 /// The place that a digit stands for: 0, 1, or X for any other mark.
 pub(crate) fn place(digit: u8) -> Tern {
@@ -64,4 +64,36 @@ pub(crate) fn shown_places(alloc: Global, places: &[Tern]) -> Option<String> {
         digits.push(mark(*place)).ok()?;
     }
     Some(digits)
+}
+
+/// Bits as digits, with a blank behind each list.
+pub(crate) fn shown_lists(alloc: Global, lists: &[Bits]) -> Option<String> {
+    let mut digits = String::new(alloc);
+    for bits in lists {
+        put(&mut digits, bits.as_slice()).ok()?;
+    }
+    Some(digits)
+}
+
+fn put(digits: &mut String, bits: &[bool]) -> Result<(), AllocError> {
+    for bit in bits {
+        digits.push(if *bit { '1' } else { '0' })?;
+    }
+    digits.push(' ')
+}
+
+/// Places as digits, with a blank behind each list.
+pub(crate) fn shown_cubes(alloc: Global, cubes: &[Cube]) -> Option<String> {
+    let mut digits = String::new(alloc);
+    for cube in cubes {
+        put_places(&mut digits, cube.as_slice()).ok()?;
+    }
+    Some(digits)
+}
+
+fn put_places(digits: &mut String, places: &[Tern]) -> Result<(), AllocError> {
+    for place in places {
+        digits.push(mark(*place))?;
+    }
+    digits.push(' ')
 }

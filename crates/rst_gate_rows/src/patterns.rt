@@ -1,38 +1,40 @@
 // Patterns of inputs, their fillings, and runs in which free bits are X.
-ghost use Rattle.std.specs.Prelude.{◌≡◌, length, IfSome};
+ghost use Rattle.std.specs.Prelude.{◌≡◌, length, IfOk, IfSome};
+ghost use Rattle.std.specs.List.{AllByRecursion};
+ghost use Rattle.rst_gate.specs.Patterns.{free_bits};
 
 use crate::circuits::both_inputs;
-use crate::digits::{bit_at, bits, place_at, shown, shown_places};
+use crate::digits::{bit_at, bits, place_at, shown, shown_cubes, shown_lists, shown_places};
 use rst_gate::{Cube, Pattern, filled, free_places, known_pattern};
+use rst_outside::NoMemory;
 use rst_sim::tern_run_free;
 use rst_table::{Unlike, agree};
 use rst_value::Tern;
 use std::alloc::Global;
 use std::test::Fail;
 
-// The filling of two cycles over two inputs, with a free bit in each, by two bits.
-fn filling(alloc: Global, digits: &str) -> Option<(String, String)> {
-    use Tern::{One, Unknown, Zero};
+// A pattern of two cycles over two inputs, with a free bit in each.
+fn two_free(alloc: Global) -> Result<Pattern, NoMemory>
+    ensures { IfOk result (λ pattern. free_bits pattern ≡ 2) }
+{
     let mut pattern = Pattern::new(alloc);
-    pattern
-        .push(Cube::from_slice(alloc, &[Unknown, Zero]).ok()?)
-        .ok()?;
-    pattern
-        .push(Cube::from_slice(alloc, &[One, Unknown]).ok()?)
-        .ok()?;
+    pattern.push(Cube::from_slice(alloc, &[Tern::Unknown, Tern::Zero])?)?;
+    pattern.push(Cube::from_slice(alloc, &[Tern::One, Tern::Unknown])?)?;
+    Ok(pattern)
+}
+
+// The filling of that pattern by two bits.
+fn filling(alloc: Global, digits: &str) -> Option<String> {
+    let pattern = two_free(alloc).ok()?;
     let word = filled(alloc, &pattern, &[bit_at(digits, 0)?, bit_at(digits, 1)?]).ok()?;
-    if word.len() != 2 {
-        return None;
-    }
-    let first = shown(alloc, word.get(0).as_slice())?;
-    Some((first, shown(alloc, word.get(1).as_slice())?))
+    shown_lists(alloc, word.as_slice())
 }
 
 const FILLINGS: &str = r#"
-    00 => ("00", "10")
-    01 => ("00", "11")
-    10 => ("10", "10")
-    11 => ("10", "11")
+    00 => "00 10 "
+    01 => "00 11 "
+    10 => "10 10 "
+    11 => "10 11 "
 "#;
 
 #[test]
@@ -72,23 +74,24 @@ fn two_places(alloc: Global, digits: &str, at: usize) -> Option<Cube>
     Cube::from_slice(alloc, &[first, second]).ok()
 }
 
-// The states of the register that takes both inputs, from X, over a pattern of three cycles.
-fn masked(alloc: Global, digits: &str) -> Option<String> {
-    let gates = both_inputs(alloc).ok()?;
+// A pattern of three cycles over two inputs.
+fn three_cycles(alloc: Global, digits: &str) -> Option<Pattern>
+    ensures { IfSome result (λ pattern. AllByRecursion (λ cube. length cube ≡ 2) pattern) }
+{
     let mut pattern = Pattern::new(alloc);
     pattern.push(two_places(alloc, digits, 0)?).ok()?;
     pattern.push(two_places(alloc, digits, 3)?).ok()?;
     pattern.push(two_places(alloc, digits, 6)?).ok()?;
+    Some(pattern)
+}
+
+// The states of the register that takes both inputs, from X, over a pattern of three cycles.
+fn masked(alloc: Global, digits: &str) -> Option<String> {
+    let pattern = three_cycles(alloc, digits)?;
     let start = Cube::from_slice(alloc, &[Tern::Unknown]).ok()?;
+    let gates = both_inputs(alloc).ok()?;
     let trace = tern_run_free(alloc, &gates, &start, &pattern).ok()?;
-    let mut states = String::new(alloc);
-    for state in &trace.states {
-        states
-            .push_str(shown_places(alloc, state.as_slice())?.as_str())
-            .ok()?;
-        states.push(' ').ok()?;
-    }
-    Some(states)
+    shown_cubes(alloc, &trace.states)
 }
 
 // A free bit stays X where the other input is 1, and is masked where it is 0.

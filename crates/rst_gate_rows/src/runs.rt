@@ -1,9 +1,9 @@
 // Runs and closed sets of small circuits, worked by hand.
-ghost use Rattle.std.specs.Prelude.{◌≡◌, length, IfOk};
+ghost use Rattle.std.specs.Prelude.{◌≡◌, length, IfOk, IfSome};
 ghost use Rattle.std.specs.List.{AllByRecursion};
 
 use crate::circuits::{chain, is_two, selected, toggle};
-use crate::digits::{bit_at, bits, place_at, shown, shown_places};
+use crate::digits::{bit_at, bits, place_at, shown, shown_cubes, shown_lists, shown_places};
 use rst_gate::{Bits, Cube, Gates, Sequence};
 use rst_outside::NoMemory;
 use rst_sim::{closed_equal, tern_cycle, tern_run, two_cycle, two_run};
@@ -22,40 +22,37 @@ fn two_cycles(alloc: Global, first: bool, second: bool) -> Result<Sequence, NoMe
 }
 
 // The outputs of two cycles of the toggle from a register, by the resets, and the state behind them.
-fn toggle_run(alloc: Global, digits: &str) -> Option<(String, String, String)> {
-    let gates = toggle(alloc).ok()?;
-    let start = Bits::from_slice(alloc, &[bit_at(digits, 0)?]).ok()?;
+fn toggle_run(alloc: Global, digits: &str) -> Option<(String, String)> {
     let word = two_cycles(alloc, bit_at(digits, 2)?, bit_at(digits, 3)?).ok()?;
+    let start = Bits::from_slice(alloc, &[bit_at(digits, 0)?]).ok()?;
+    let gates = toggle(alloc).ok()?;
     let trace = two_run(alloc, &gates, &start, &word).ok()?;
-    let first = shown(alloc, trace.outs.first()?.as_slice())?;
-    let second = shown(alloc, trace.outs.get(1)?.as_slice())?;
-    if trace.outs.len() != 2 {
-        return None;
-    }
-    Some((first, second, shown(alloc, trace.last.as_slice())?))
+    let outs = shown_lists(alloc, &trace.outs)?;
+    Some((outs, shown(alloc, trace.last.as_slice())?))
 }
 
 #[test]
 fn toggle_in_two_values(rt: HostRuntime) -> Result<(), Unlike> {
-    agree(rt.alloc(), r#"1 10 => ("1", "0", "1")"#, toggle_run)
+    agree(rt.alloc(), r#"1 10 => ("1 0 ", "1")"#, toggle_run)
+}
+
+// The resets of three cycles.
+fn three_cycles(alloc: Global, digits: &str) -> Option<Sequence>
+    ensures { IfSome result (λ word. AllByRecursion (λ input. length input ≡ 1) word) }
+{
+    let mut word = two_cycles(alloc, bit_at(digits, 0)?, bit_at(digits, 1)?).ok()?;
+    word.push(Bits::from_slice(alloc, &[bit_at(digits, 2)?]).ok()?)
+        .ok()?;
+    Some(word)
 }
 
 // The states of the toggle from an unknown register, by the resets of three cycles.
 fn toggle_states(alloc: Global, digits: &str) -> Option<String> {
-    let gates = toggle(alloc).ok()?;
-    let mut word = two_cycles(alloc, bit_at(digits, 0)?, bit_at(digits, 1)?).ok()?;
-    word.push(Bits::from_slice(alloc, &[bit_at(digits, 2)?]).ok()?)
-        .ok()?;
+    let word = three_cycles(alloc, digits)?;
     let start = Cube::from_slice(alloc, &[Tern::Unknown]).ok()?;
+    let gates = toggle(alloc).ok()?;
     let trace = tern_run(alloc, &gates, &start, &word).ok()?;
-    let mut states = String::new(alloc);
-    for state in &trace.states {
-        states
-            .push_str(shown_places(alloc, state.as_slice())?.as_str())
-            .ok()?;
-        states.push(' ').ok()?;
-    }
-    Some(states)
+    shown_cubes(alloc, &trace.states)
 }
 
 #[test]
