@@ -232,7 +232,7 @@ enum Root {
     Another,
 }
 
-fn root(typed: &TypedExpr) -> Root {
+fn root_of(typed: &TypedExpr) -> Root {
     match &typed.node {
         TypedNode::Word(_) => Root::Parameter,
         TypedNode::Signal(_) => Root::Signal,
@@ -249,7 +249,7 @@ fn target(alloc: Global, items: &str) -> Option<Result<(Root, u8), Fault>> {
     let scope = scope(alloc).ok()?;
     match typed_target(alloc, first_target(&source)?, &scope) {
         Ok(typed) => {
-            let found = (root(&typed), typed.width);
+            let found = (root_of(&typed), typed.width);
             drop(typed);
             Some(Ok(found))
         }

@@ -237,7 +237,7 @@ enum Root {
     Another,
 }
 
-fn root(typed: &TypedExpr) -> Root {
+fn root_of(typed: &TypedExpr) -> Root {
     match typed.node {
         TypedNode::Signal(1) => Root::SignalOne,
         TypedNode::Slice(1, 1, 3) => Root::SliceOfSignalOne,
@@ -249,7 +249,7 @@ fn root(typed: &TypedExpr) -> Root {
 
 // The width, the sign and the root of a typed form.
 fn summary(typed: &TypedExpr) -> (u8, bool, Root) {
-    (typed.width, typed.signed, root(typed))
+    (typed.width, typed.signed, root_of(typed))
 }
 
 // What a select is typed as, and whether that names a signal.
