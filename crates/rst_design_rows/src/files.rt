@@ -8,6 +8,7 @@ use rst_flow::Net;
 use rst_reject::{Reject, Stop, reject_line};
 use std::alloc::{AllocError, Global};
 use std::str;
+use std::test::Fail;
 
 // The files of these texts, if they are few and short enough.
 fn files_of(alloc: Global, texts: &[&str]) -> Option<Vec<Vec<u8>>>
@@ -40,16 +41,16 @@ fn counts(alloc: Global, net: &Net) -> Result<String, AllocError> {
 }
 
 // The line of a refusal, where the files have the words `f0`, `f1` and so on.
-fn line(alloc: Global, reject: &Reject) -> Option<String> {
+fn line(alloc: Global, reject: &Reject) -> Result<String, Fail> {
     let file = reject.file.unwrap_or(0);
-    let word = format!(in alloc; "f{file}").ok()?;
+    let word = format!(in alloc; "f{file}")?;
     let word = match reject.file {
         None => None,
         Some(_) => Some(word.as_bytes()),
     };
-    let bytes = reject_line(alloc, reject, word).ok()?;
-    let text = str::from_utf8(bytes.as_slice()).ok()?;
-    String::from_str(alloc, text).ok()
+    let bytes = reject_line(alloc, reject, word).ok().ok_or("memory")?;
+    let text = str::from_utf8(bytes.as_slice()).unwrap_or("?");
+    Ok(String::from_str(alloc, text)?)
 }
 
 /// What texts come to below a top: the counts of the netlist, or the line of the refusal.
@@ -58,20 +59,12 @@ pub(crate) fn answer(
     texts: &[&str],
     top: &str,
     clock: Option<&str>,
-) -> Option<String> {
-    let files = files_of(alloc, texts)?;
+) -> Result<String, Fail> {
+    let files = files_of(alloc, texts).ok_or("files")?;
     let clock = clock.map(|name| name.as_bytes());
     match read_design(alloc, &files, top.as_bytes(), clock) {
-        Ok(net) => {
-            let told = counts(alloc, &net);
-            drop(net);
-            told.ok()
-        }
-        Err(Stop::Rejected(reject)) => {
-            let told = line(alloc, &reject);
-            drop(reject);
-            told
-        }
-        Err(Stop::NoMemory) => None,
+        Ok(net) => Ok(counts(alloc, &net)?),
+        Err(Stop::Rejected(reject)) => line(alloc, &reject),
+        Err(Stop::NoMemory) => Ok(String::from_str(alloc, "no memory")?),
     }
 }

@@ -7,11 +7,12 @@ ghost use Rattle.rst_hierarchy.specs.Tables.{modules_in};
 
 use rst_elab::{ElabError, ElabFault, Flat, elaborate};
 use rst_lex::lex;
-use rst_net::{Role, Signal};
+use rst_net::Role;
 use rst_parse::parse;
 use rst_tree::Source;
 use std::alloc::{AllocError, Global};
 use std::str;
+use std::test::Fail;
 
 // The modules of a text that has a tree.
 fn source_of(alloc: Global, text: &[u8]) -> Option<Source>
@@ -51,21 +52,13 @@ fn text_of(bytes: &[u8]) -> &str {
     str::from_utf8(bytes).unwrap_or("?")
 }
 
-// Adds a signal with its width and its role.
-fn put_signal(alloc: Global, told: &mut String, signal: &Signal) -> Result<(), AllocError> {
-    told.push_str(text_of(signal.name.as_slice()))?;
-    told.push(' ')?;
-    told.push_str(signal.shape.width.to_string(alloc)?.as_str())?;
-    told.push(' ')?;
-    told.push_str(role_of(signal.role))?;
-    told.push(' ')
-}
-
 // Each signal with its width and its role.
 fn signals(alloc: Global, flat: &Flat) -> Result<String, AllocError> {
     let mut told = String::new(alloc);
     for signal in &flat.signals {
-        put_signal(alloc, &mut told, signal)?;
+        let name = text_of(signal.name.as_slice());
+        let width = signal.shape.width;
+        told.push_str(format!(in alloc; "{name} {width} {} ", role_of(signal.role))?.as_str())?;
     }
     Ok(told)
 }
@@ -77,19 +70,17 @@ fn refusal(alloc: Global, fault: &ElabFault) -> Result<String, AllocError> {
 }
 
 /// What texts elaborate to: the signals of the flat design with their widths and roles, or the refusal.
-pub(crate) fn answer(alloc: Global, texts: &[&str], top: &str, clock: &str) -> Option<String> {
-    let sources = sources_of(alloc, texts)?;
-    match elaborate(alloc, &sources, top.as_bytes(), Some(clock.as_bytes())) {
-        Ok(flat) => {
-            let told = signals(alloc, &flat);
-            drop(flat);
-            told.ok()
-        }
-        Err(ElabError::Fault(fault)) => {
-            let told = refusal(alloc, &fault);
-            drop(fault);
-            told.ok()
-        }
-        Err(ElabError::NoMemory) => None,
-    }
+pub(crate) fn answer(
+    alloc: Global,
+    texts: &[&str],
+    top: &str,
+    clock: &str,
+) -> Result<String, Fail> {
+    let sources = sources_of(alloc, texts).ok_or("trees")?;
+    let told = match elaborate(alloc, &sources, top.as_bytes(), Some(clock.as_bytes())) {
+        Ok(flat) => signals(alloc, &flat)?,
+        Err(ElabError::Fault(fault)) => refusal(alloc, &fault)?,
+        Err(ElabError::NoMemory) => String::from_str(alloc, "no memory")?,
+    };
+    Ok(told)
 }

@@ -4,8 +4,6 @@
 #[cfg(test)]
 mod circuits;
 #[cfg(test)]
-mod digits;
-#[cfg(test)]
 mod gates;
 #[cfg(test)]
 mod laws;

@@ -84,9 +84,11 @@ fn operands_in_either_order_are_one_gate(rt: HostRuntime) -> Result<(), Fail> {
     let mut builder = GateBuilder::new(alloc, 2, 0)?;
     let edges = either_order(&mut builder)?;
     let gates = builder.finish(Vec::new(alloc), Vec::new(alloc))?.gates;
-    assert!(rt; edges.as_slice() == [plain(3), plain(3), plain(4)].as_slice());
-    let wanted = [Gate::And(plain(1), plain(2)), Gate::Xor(plain(3), plain(3))];
-    assert!(rt; gates.as_slice() == wanted.as_slice());
+    assert_eq!(rt; edges.as_slice(), [plain(3), plain(3), plain(4)].as_slice());
+    assert_eq!(rt;
+        gates.as_slice(),
+        [Gate::And(plain(1), plain(2)), Gate::Xor(plain(3), plain(3))].as_slice()
+    );
     Ok(())
 }
 
@@ -96,9 +98,11 @@ fn of_one_node_the_plain_edge_comes_first(rt: HostRuntime) -> Result<(), Fail> {
     let mut builder = GateBuilder::new(alloc, 2, 0)?;
     let edges = opposites(&mut builder)?;
     let gates = builder.finish(Vec::new(alloc), Vec::new(alloc))?.gates;
-    assert!(rt; edges.as_slice() == [plain(3), plain(3)].as_slice());
-    let wanted = [Gate::Xor(plain(1), plain(1).turned(true))];
-    assert!(rt; gates.as_slice() == wanted.as_slice());
+    assert_eq!(rt; edges.as_slice(), [plain(3), plain(3)].as_slice());
+    assert_eq!(rt;
+        gates.as_slice(),
+        [Gate::Xor(plain(1), plain(1).turned(true))].as_slice()
+    );
     Ok(())
 }
 
@@ -108,8 +112,10 @@ fn constants_are_folded(rt: HostRuntime) -> Result<(), Fail> {
     let edges = with_constants(&mut builder)?;
     drop(builder);
     let (input, low) = (plain(1), Edge::constant(false));
-    let wanted = [low, low, input, input, input.turned(true)];
-    assert!(rt; edges.as_slice() == wanted.as_slice());
+    assert_eq!(rt;
+        edges.as_slice(),
+        [low, low, input, input, input.turned(true)].as_slice()
+    );
     Ok(())
 }
 
@@ -118,7 +124,7 @@ fn constant_selects_are_folded(rt: HostRuntime) -> Result<(), Fail> {
     let mut builder = GateBuilder::new(rt.alloc(), 2, 0)?;
     let edges = constant_selects(&mut builder)?;
     drop(builder);
-    assert!(rt; edges.as_slice() == [plain(2), plain(1)].as_slice());
+    assert_eq!(rt; edges.as_slice(), [plain(2), plain(1)].as_slice());
     Ok(())
 }
 
@@ -129,7 +135,7 @@ fn equal_operands_make_a_gate(rt: HostRuntime) -> Result<(), Fail> {
     let mut builder = GateBuilder::new(rt.alloc(), 2, 0)?;
     let edges = equal_operands(&mut builder)?;
     drop(builder);
-    assert!(rt; edges.as_slice() == [plain(3), plain(4), plain(5)].as_slice());
+    assert_eq!(rt; edges.as_slice(), [plain(3), plain(4), plain(5)].as_slice());
     Ok(())
 }
 
@@ -138,6 +144,7 @@ fn a_refusal_leaves_earlier_edges(rt: HostRuntime) -> Result<(), Fail> {
     let mut builder = GateBuilder::new(rt.alloc(), 2, 0)?;
     let (before, behind) = asked_again(&mut builder)?;
     drop(builder);
-    assert!(rt; before == plain(3) && behind == plain(3));
+    assert_eq!(rt; before, plain(3));
+    assert_eq!(rt; behind, plain(3));
     Ok(())
 }

@@ -13,6 +13,7 @@ use rst_sim::tern_cycle;
 use rst_source_machine::laws::nets_are_sources;
 use rst_value::Tern;
 use std::alloc::{AllocError, Global};
+use std::test::Fail;
 
 // The netlist of a text below its module `t`. It has gates.
 fn net_of(alloc: Global, files: &[Vec<u8>], clock: Option<&[u8]>) -> Result<Net, Stop>
@@ -38,13 +39,13 @@ fn file_of(alloc: Global, text: &str) -> Option<Vec<Vec<u8>>>
     Some(files)
 }
 
-// The gates of a text below its module `t`, with the clock `clk` where it has one.
-fn gates_of(alloc: Global, text: &str, clock: Option<&[u8]>) -> Option<Box<Gates>> {
-    let files = file_of(alloc, text)?;
-    let net = net_of(alloc, &files, clock).ok()?;
-    let gates = lower(alloc, &net).ok();
-    drop(net);
-    Box::new(alloc, gates?).ok()
+/// The gates of a text below its module `t`, with the clock `clk` where it has one.
+pub(crate) fn gates_of(alloc: Global, text: &str, clock: Option<&str>) -> Result<Gates, Fail> {
+    let files = file_of(alloc, text).ok_or("files")?;
+    let clock = clock.map(|name| name.as_bytes());
+    let net = net_of(alloc, &files, clock).ok().ok_or("no netlist")?;
+    let gates = lower(alloc, &net).ok().ok_or("memory")?;
+    Ok(gates)
 }
 
 fn put_edge(alloc: Global, told: &mut String, edge: Edge) -> Result<(), AllocError> {
@@ -83,8 +84,8 @@ fn put_edges(alloc: Global, told: &mut String, edges: &[Edge]) -> Result<(), All
     Ok(())
 }
 
-// Gates in a line: each, the edges of the outputs, and those of the next states.
-fn told(alloc: Global, gates: &Gates) -> Result<String, AllocError> {
+/// Gates in a line: each, the edges of the outputs, and those of the next states.
+pub(crate) fn told(alloc: Global, gates: &Gates) -> Result<String, AllocError> {
     let mut told = String::new(alloc);
     for gate in &gates.gates {
         put_gate(alloc, &mut told, *gate)?;
@@ -94,12 +95,6 @@ fn told(alloc: Global, gates: &Gates) -> Result<String, AllocError> {
     told.push_str(", nexts")?;
     put_edges(alloc, &mut told, &gates.nexts)?;
     Ok(told)
-}
-
-/// The gates of a text in a line.
-pub(crate) fn line(alloc: Global, text: &str, clock: Option<&[u8]>) -> Option<String> {
-    let gates = gates_of(alloc, text, clock)?;
-    told(alloc, &gates).ok()
 }
 
 fn places_of(alloc: Global, word: &str) -> Result<Vec<Tern>, AllocError> {
@@ -127,26 +122,24 @@ fn put_places(told: &mut String, places: &[Tern]) -> Result<(), AllocError> {
     Ok(())
 }
 
-// What gates show in a cycle and where they lead, in three values, each word in bit order.
-fn cycle(alloc: Global, gates: &Gates, state: &str, input: &str) -> Option<String> {
-    let state = places_of(alloc, state).ok()?;
-    let input = places_of(alloc, input).ok()?;
+/// What gates show in a cycle and where they lead, in three values, each word in bit order.
+pub(crate) fn cycle(
+    alloc: Global,
+    gates: &Gates,
+    state: &str,
+    input: &str,
+) -> Result<String, Fail> {
+    let state = places_of(alloc, state)?;
+    let input = places_of(alloc, input)?;
     if state.len() != gates.states as usize || input.len() != gates.inputs as usize {
-        return None;
+        return Ok(String::from_str(alloc, "other widths")?);
     }
-    let frame = tern_cycle(alloc, gates, &state, &input).ok()?;
+    let frame = tern_cycle(alloc, gates, &state, &input)
+        .ok()
+        .ok_or("memory")?;
     let mut told = String::new(alloc);
-    put_places(&mut told, &frame.outs).ok()?;
-    told.push(' ').ok()?;
-    put_places(&mut told, &frame.nexts).ok()?;
-    Some(told)
-}
-
-/// What the gates of a text show in a cycle and where they lead, by the inputs of a row, or by its state and its inputs.
-pub(crate) fn shown(alloc: Global, text: &str, clock: Option<&[u8]>, row: &str) -> Option<String> {
-    let gates = gates_of(alloc, text, clock)?;
-    match row.split_once(" ") {
-        Some((state, input)) => cycle(alloc, &gates, state, input),
-        None => cycle(alloc, &gates, "", row),
-    }
+    put_places(&mut told, &frame.outs)?;
+    told.push_str(" ")?;
+    put_places(&mut told, &frame.nexts)?;
+    Ok(told)
 }

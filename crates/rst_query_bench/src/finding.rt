@@ -21,14 +21,9 @@ fn clause(f: &Formula, i: usize) -> &[i32] {
     }
 }
 
-// A solver of so many variables.
-fn empty(alloc: Global, vars: u32) -> Result<Box<Solver>, AllocError> {
-    Ok(Box::new(alloc, Solver::new(alloc, vars, 0)?)?)
-}
-
 // A solver with the clauses.
-fn load(alloc: Global, f: &Formula) -> Result<Box<Solver>, AllocError> {
-    let mut solver = empty(alloc, f.vars)?;
+fn load(alloc: Global, f: &Formula) -> Result<Solver, AllocError> {
+    let mut solver = Solver::new(alloc, f.vars, 0)?;
     for i in 0..f.ends.len() {
         solver.expect(clause(f, i));
     }
@@ -92,7 +87,7 @@ fn ask<R: Print>(rt: &R, f: &Formula, solver: &mut Solver, place: usize) -> io::
 
 // Adds the clauses one after another, and solves where that is asked.
 fn ask_all<R: Print + AllocGlobal>(rt: &R, f: &Formula) -> io::Result<()> {
-    let mut solver = empty(rt.alloc(), f.vars)?;
+    let mut solver = Solver::new(rt.alloc(), f.vars, 0)?;
     for i in 0..f.ends.len() {
         if f.asks.get(i).copied().unwrap_or(false) {
             ask(rt, f, &mut solver, i)?;
@@ -153,7 +148,6 @@ pub(crate) fn print_found<R: Files + Print + AllocGlobal>(
     let mut solver = load(rt.alloc(), &f)?;
     let outcome = solver.solve(&[], conflicts)?;
     let word = answer(&f, &outcome);
-    drop(outcome);
     println!(rt;
         "{word} conflicts {} decisions {} log {}",
         solver.conflicts(),

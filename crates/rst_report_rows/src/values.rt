@@ -10,22 +10,11 @@ use rst_report::{Head, Ports};
 use rst_value::Tern;
 use rst_verdict::{Hops, Verdict};
 use std::alloc::Global;
-use std::str;
-
-/// Bytes as text.
-pub(crate) fn shown(alloc: Global, bytes: &[u8]) -> Option<String> {
-    String::from_str(alloc, str::from_utf8(bytes).ok()?).ok()
-}
-
-// The digits of a word; `-` alone has none.
-fn digits(word: &str) -> &[u8] {
-    if word == "-" { b"" } else { word.as_bytes() }
-}
 
 /// Bits, of digits 0 and 1.
-pub(crate) fn bits(alloc: Global, word: &str) -> Result<Bits, NoMemory> {
+pub fn bits(alloc: Global, digits: &[u8]) -> Result<Bits, NoMemory> {
     let mut bits = Bits::new(alloc);
-    for digit in digits(word) {
+    for digit in digits {
         bits.push(*digit == b'1')?;
     }
     Ok(bits)
@@ -40,34 +29,28 @@ fn place(digit: u8) -> Tern {
 }
 
 /// Places, of digits 0 and 1 and any mark for X.
-pub(crate) fn cube(alloc: Global, word: &str) -> Result<Cube, NoMemory> {
+pub fn cube(alloc: Global, digits: &[u8]) -> Result<Cube, NoMemory> {
     let mut cube = Cube::new(alloc);
-    for digit in word.as_bytes() {
+    for digit in digits {
         cube.push(place(*digit))?;
     }
     Ok(cube)
 }
 
-/// A word of inputs, cycle by cycle, parted by commas; `-` alone has no cycle.
-pub(crate) fn sequence(alloc: Global, cycles: &str) -> Result<Sequence, NoMemory> {
-    let mut sequence = Sequence::new(alloc);
-    if cycles == "-" {
-        return Ok(sequence);
+/// A word of inputs, cycle by cycle.
+pub fn word(alloc: Global, cycles: &[&[u8]]) -> Result<Sequence, NoMemory> {
+    let mut word = Sequence::new(alloc);
+    for digits in cycles {
+        word.push(bits(alloc, digits)?)?;
     }
-    for cycle in cycles.split(',') {
-        sequence.push(bits(alloc, cycle)?)?;
-    }
-    Ok(sequence)
+    Ok(word)
 }
 
-/// A pattern of inputs, cycle by cycle, parted by commas; `-` alone has no cycle.
-pub(crate) fn pattern(alloc: Global, cycles: &str) -> Result<Pattern, NoMemory> {
+/// A pattern of inputs, cycle by cycle.
+pub fn pattern(alloc: Global, cycles: &[&[u8]]) -> Result<Pattern, NoMemory> {
     let mut pattern = Pattern::new(alloc);
-    if cycles == "-" {
-        return Ok(pattern);
-    }
-    for cycle in cycles.split(',') {
-        pattern.push(cube(alloc, cycle)?)?;
+    for digits in cycles {
+        pattern.push(cube(alloc, digits)?)?;
     }
     Ok(pattern)
 }
@@ -155,13 +138,13 @@ pub fn wires(alloc: Global) -> Result<Head, NoMemory>
 }
 
 /// Signed by three-valued simulation.
-pub fn known(alloc: Global, cycles: &str) -> Result<Verdict, NoMemory> {
+pub fn known(alloc: Global, cycles: &[&[u8]]) -> Result<Verdict, NoMemory> {
     let seq = pattern(alloc, cycles)?;
     Ok(Verdict::SignedKnown { seq })
 }
 
 /// Signed by a relation, without evidence.
-pub fn related(alloc: Global, cycles: &str) -> Result<Verdict, NoMemory> {
+pub fn related(alloc: Global, cycles: &[&[u8]]) -> Result<Verdict, NoMemory> {
     let seq = pattern(alloc, cycles)?;
     Ok(Verdict::SignedRelation {
         seq,
@@ -172,20 +155,23 @@ pub fn related(alloc: Global, cycles: &str) -> Result<Verdict, NoMemory> {
     })
 }
 
-/// Two states that a sequence doesn't align, told apart by a word: the sequence, both states, the word.
+/// Two states that a sequence doesn't align, told apart by a word.
 pub fn refuted(
     alloc: Global,
-    [cycles, left, right, behind]: [&str; 4],
+    cycles: &[&[u8]],
+    left: &[u8],
+    right: &[u8],
+    behind: &[&[u8]],
 ) -> Result<Verdict, NoMemory> {
-    let seq = sequence(alloc, cycles)?;
+    let seq = word(alloc, cycles)?;
     let a = bits(alloc, left)?;
     let b = bits(alloc, right)?;
-    let word = sequence(alloc, behind)?;
+    let word = word(alloc, behind)?;
     Ok(Verdict::Refuted { seq, a, b, word })
 }
 
 /// Two states that no word aligns, without evidence.
-pub fn never(alloc: Global, left: &str, right: &str) -> Result<Verdict, NoMemory> {
+pub fn never(alloc: Global, left: &[u8], right: &[u8]) -> Result<Verdict, NoMemory> {
     let a = bits(alloc, left)?;
     let b = bits(alloc, right)?;
     Ok(Verdict::Never {
@@ -197,15 +183,18 @@ pub fn never(alloc: Global, left: &str, right: &str) -> Result<Verdict, NoMemory
     })
 }
 
-/// Two states that a sequence doesn't align and a word behind it does, without evidence: the sequence, both states, the word.
+/// Two states that a sequence doesn't align and a word behind it does, without evidence.
 pub fn alignable(
     alloc: Global,
-    [cycles, left, right, behind]: [&str; 4],
+    cycles: &[&[u8]],
+    left: &[u8],
+    right: &[u8],
+    behind: &[&[u8]],
 ) -> Result<Verdict, NoMemory> {
-    let seq = sequence(alloc, cycles)?;
+    let seq = word(alloc, cycles)?;
     let a = bits(alloc, left)?;
     let b = bits(alloc, right)?;
-    let word = sequence(alloc, behind)?;
+    let word = word(alloc, behind)?;
     Ok(Verdict::Alignable {
         seq,
         a,

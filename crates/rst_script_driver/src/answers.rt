@@ -1,7 +1,7 @@
 // What a script reads as, and the pattern that it gives, as lines.
 use rst_gate::Pattern;
 use rst_outside::{Name, NoMemory, PortBits};
-use rst_script::{Script, ScriptFault, Setting, Step, fit_script, read_script};
+use rst_script::{Script, ScriptFault, Step, fit_script, read_script};
 use rst_value::Tern;
 use std::alloc::Global;
 use std::rt::Files;
@@ -52,118 +52,69 @@ fn ports_of(alloc: Global, text: &[u8]) -> Result<Vec<PortBits>, NoMemory> {
     Ok(ports)
 }
 
-// A fault's name and line; 0 is no line.
-fn told(fault: ScriptFault) -> (&'static str, u32) {
+fn print_fault<R: Print + AllocGlobal>(rt: &R, fault: ScriptFault) -> io::Result<()> {
     match fault {
-        ScriptFault::BadLine(line) => ("BadLine", line),
-        ScriptFault::Repeated(line) => ("Repeated", line),
-        ScriptFault::TooMany(line) => ("TooMany", line),
-        ScriptFault::BadName(line) => ("BadName", line),
-        ScriptFault::BadValue(line) => ("BadValue", line),
-        ScriptFault::TooFree(line) => ("TooFree", line),
-        ScriptFault::NoMemory => ("NoMemory", 0),
+        ScriptFault::BadLine(line) => println!(rt; "refused BadLine {line}"),
+        ScriptFault::Repeated(line) => println!(rt; "refused Repeated {line}"),
+        ScriptFault::TooMany(line) => println!(rt; "refused TooMany {line}"),
+        ScriptFault::BadName(line) => println!(rt; "refused BadName {line}"),
+        ScriptFault::BadValue(line) => println!(rt; "refused BadValue {line}"),
+        ScriptFault::TooFree(line) => println!(rt; "refused TooFree {line}"),
+        ScriptFault::NoMemory => println!(rt; "refused NoMemory 0"),
     }
 }
 
-fn print_fault<R: Print>(rt: &R, fault: ScriptFault) -> io::Result<()> {
-    let (name, line) = told(fault);
-    println!(rt; "refused {name} {line}")
-}
-
-fn print_setting<R: Print>(rt: &R, setting: &Setting) -> io::Result<()> {
-    let name = shown(setting.name.as_slice());
-    match setting.value {
-        None => print!(rt; " {name}=*"),
-        Some(value) => print!(rt; " {name}={value}"),
-    }
-}
-
-fn print_step<R: Print>(rt: &R, step: &Step) -> io::Result<()> {
+fn print_step<R: Print + AllocGlobal>(rt: &R, step: &Step) -> io::Result<()> {
     let line = step.line;
     let times = step.times;
     print!(rt; "step line {line} times {times}")?;
     for setting in step.values.as_slice() {
-        print_setting(rt, setting)?;
+        let name = shown(setting.name.as_slice());
+        match setting.value {
+            None => print!(rt; " {name}=*")?,
+            Some(value) => print!(rt; " {name}={value}")?,
+        }
     }
     println!(rt; "")
 }
 
-fn print_clock<R: Print>(rt: &R, script: &Script) -> io::Result<()> {
+fn print_script<R: Print + AllocGlobal>(rt: &R, script: &Script) -> io::Result<()> {
+    let version = script.version;
+    println!(rt; "version {version}")?;
     match &script.clock {
-        None => println!(rt; "noclock"),
-        Some(name) => print_fact(rt, "clock", shown(name.as_slice())),
+        None => println!(rt; "noclock")?,
+        Some(name) => {
+            let name = shown(name.as_slice());
+            println!(rt; "clock {name}")?;
+        }
     }
-}
-
-fn print_fact<R: Print>(rt: &R, word: &str, value: &str) -> io::Result<()> {
-    println!(rt; "{word} {value}")
-}
-
-fn print_count<R: Print>(rt: &R, word: &str, count: u64) -> io::Result<()> {
-    println!(rt; "{word} {count}")
-}
-
-fn print_script<R: Print>(rt: &R, script: &Script) -> io::Result<()> {
-    print_count(rt, "version", u64::from(script.version))?;
-    print_clock(rt, script)?;
-    print_count(rt, "budget", u64::from(script.budget))?;
-    print_count(rt, "bound", u64::from(script.bound))?;
-    print_fact(rt, "report", if script.json { "json" } else { "text" })?;
+    let budget = script.budget;
+    println!(rt; "budget {budget}")?;
+    let bound = script.bound;
+    println!(rt; "bound {bound}")?;
+    let kind = if script.json { "json" } else { "text" };
+    println!(rt; "report {kind}")?;
     for step in script.steps.as_slice() {
         print_step(rt, step)?;
     }
     Ok(())
 }
 
-fn mark(place: Tern) -> &'static str {
-    match place {
-        Tern::Zero => "0",
-        Tern::One => "1",
-        Tern::Unknown => "-",
-    }
-}
-
-fn print_cycle<R: Print>(rt: &R, places: &[Tern]) -> io::Result<()> {
-    print!(rt; "cycle =")?;
-    for place in places {
-        let mark = mark(*place);
-        print!(rt; "{mark}")?;
-    }
-    println!(rt; "")
-}
-
-fn print_pattern<R: Print>(rt: &R, pattern: &Pattern) -> io::Result<()> {
-    print_count(rt, "cycles", pattern.len() as u64)?;
+fn print_pattern<R: Print + AllocGlobal>(rt: &R, pattern: &Pattern) -> io::Result<()> {
+    let cycles = pattern.len();
+    println!(rt; "cycles {cycles}")?;
     for cube in pattern.as_slice() {
-        print_cycle(rt, cube.as_slice())?;
+        print!(rt; "cycle =")?;
+        for place in cube.as_slice() {
+            match place {
+                Tern::Zero => print!(rt; "0")?,
+                Tern::One => print!(rt; "1")?,
+                Tern::Unknown => print!(rt; "-")?,
+            }
+        }
+        println!(rt; "")?;
     }
     Ok(())
-}
-
-// Prints the pattern that a script gives inputs, or why it gives none.
-fn print_fitted<R: Print + AllocGlobal>(
-    rt: &R,
-    script: &Script,
-    ports: &[PortBits],
-) -> io::Result<()> {
-    match fit_script(rt.alloc(), script, ports) {
-        Err(fault) => print_fault(rt, fault),
-        Ok(pattern) => print_pattern(rt, &pattern),
-    }
-}
-
-// Prints what a script reads as, and the pattern that it gives inputs.
-fn print_read<R: Print + AllocGlobal>(rt: &R, text: &[u8], ports: &[PortBits]) -> io::Result<()> {
-    if text.len() > MOST {
-        return println!(rt; "too long");
-    }
-    match read_script(rt.alloc(), text) {
-        Err(fault) => print_fault(rt, fault),
-        Ok(script) => {
-            print_script(rt, &script)?;
-            print_fitted(rt, &script, ports)
-        }
-    }
 }
 
 /// Prints what the script of a file reads as, and the pattern that it gives the inputs of another.
@@ -174,8 +125,20 @@ pub(crate) fn print_answer<R: Files + Print + AllocGlobal>(
 ) -> io::Result<()> {
     let listed = fs::read(rt, ports)?;
     let text = fs::read(rt, script)?;
-    match ports_of(rt.alloc(), &listed) {
-        Ok(ports) => print_read(rt, &text, &ports),
-        Err(NoMemory) => println!(rt; "no memory"),
+    if text.len() > MOST {
+        return println!(rt; "too long");
+    }
+    let Ok(ports) = ports_of(rt.alloc(), &listed) else {
+        return println!(rt; "no memory");
+    };
+    match read_script(rt.alloc(), &text) {
+        Err(fault) => print_fault(rt, fault),
+        Ok(script) => {
+            print_script(rt, &script)?;
+            match fit_script(rt.alloc(), &script, ports.as_slice()) {
+                Err(fault) => print_fault(rt, fault),
+                Ok(pattern) => print_pattern(rt, &pattern),
+            }
+        }
     }
 }

@@ -1,7 +1,7 @@
 // Queries about a design with guarded data: an output word that is a data register where a valid
 // bit holds, and zero elsewhere. Two power-up states that agree on the valid bit have to give
 // equal outputs, and their successors too.
-ghost use Rattle.std.specs.Prelude.{◌+◌, ◌<◌, ◌≤◌, ◌^◌, IsTrue};
+ghost use Rattle.std.specs.Prelude.{◌+◌, ◌<◌, ◌^◌, IsTrue};
 ghost use Rattle.rst_clause.specs.Literals.{IsLiteral, AreLiterals};
 
 use rst_clause::{ClauseDomain, Clauses, Lit};
@@ -244,46 +244,6 @@ impl Query {
         }
         Ok(())
     }
-
-    // Inputs that are free bits.
-    fn inputs(&self, bits: u32) -> Result<Inputs, NoMemory> {
-        Ok(Inputs {
-            reset: self.free_bit(0)?,
-            enable: self.free_bit(1)?,
-            data: self.free_bits(2, bits)?,
-        })
-    }
-
-    // Asks that the pair of states isn't blocked, and that its outputs differ or its successors are blocked.
-    fn ask_split(
-        &mut self,
-        blocked: &[Blocked],
-        inputs: &Inputs,
-        left: &Registers,
-        right: &Registers,
-    ) -> Result<(), NoMemory> {
-        let first = self.cycle(inputs, left)?;
-        let second = self.cycle(inputs, right)?;
-        self.forbid(blocked, left, right)?;
-        let mut some = self.differences(&first.outputs, &second.outputs)?;
-        self.add_each(&mut some, blocked, &first.next, &second.next)?;
-        self.require(&some)
-    }
-
-    // Asks that the successors of the pair of states are blocked.
-    fn ask_land(
-        &mut self,
-        blocked: &[Blocked],
-        inputs: &Inputs,
-        left: &Registers,
-        right: &Registers,
-    ) -> Result<(), NoMemory> {
-        let first = self.cycle(inputs, left)?;
-        let second = self.cycle(inputs, right)?;
-        let mut some = Vec::new(self.alloc);
-        self.add_each(&mut some, blocked, &first.next, &second.next)?;
-        self.require(&some)
-    }
 }
 
 /// The query whether a pair of states that isn't blocked has outputs that differ, or successors
@@ -294,20 +254,20 @@ pub(crate) fn split(alloc: Global, bits: u32, blocked: &[Blocked]) -> Result<Cla
         return Err(NoMemory);
     }
     let mut query = Query::new(alloc, 3 * bits + 3)?;
-    match pose_split(&mut query, bits, blocked) {
-        Ok(()) => Ok(query.domain.finish()),
-        Err(NoMemory) => Err(NoMemory),
-    }
-}
-
-// The parts of the query `split`.
-fn pose_split(query: &mut Query, bits: u32, blocked: &[Blocked]) -> Result<(), NoMemory>
-    requires { bits ≤ 1024 }
-{
-    let inputs = query.inputs(bits)?;
+    let inputs = Inputs {
+        reset: query.free_bit(0)?,
+        enable: query.free_bit(1)?,
+        data: query.free_bits(2, bits)?,
+    };
     let left = query.registers(bits + 2, bits + 3, bits)?;
     let right = query.registers(bits + 2, 2 * bits + 3, bits)?;
-    query.ask_split(blocked, &inputs, &left, &right)
+    let first = query.cycle(&inputs, &left)?;
+    let second = query.cycle(&inputs, &right)?;
+    query.forbid(blocked, &left, &right)?;
+    let mut some = query.differences(&first.outputs, &second.outputs)?;
+    query.add_each(&mut some, blocked, &first.next, &second.next)?;
+    query.require(&some)?;
+    Ok(query.domain.finish())
 }
 
 /// The query whether some pair of states is blocked behind one cycle of the reset. Its free bits
@@ -317,20 +277,15 @@ pub(crate) fn land(alloc: Global, bits: u32, blocked: &[Blocked]) -> Result<Clau
         return Err(NoMemory);
     }
     let mut query = Query::new(alloc, 2 * bits + 2)?;
-    match pose_land(&mut query, bits, blocked) {
-        Ok(()) => Ok(query.domain.finish()),
-        Err(NoMemory) => Err(NoMemory),
-    }
-}
-
-// The parts of the query `land`.
-fn pose_land(query: &mut Query, bits: u32, blocked: &[Blocked]) -> Result<(), NoMemory>
-    requires { bits ≤ 1024 }
-{
     let left = query.registers(0, 1, bits)?;
     let right = query.registers(bits + 1, bits + 2, bits)?;
     let inputs = query.reset_inputs(bits)?;
-    query.ask_land(blocked, &inputs, &left, &right)
+    let first = query.cycle(&inputs, &left)?;
+    let second = query.cycle(&inputs, &right)?;
+    let mut some = Vec::new(alloc);
+    query.add_each(&mut some, blocked, &first.next, &second.next)?;
+    query.require(&some)?;
+    Ok(query.domain.finish())
 }
 
 /// The sets of pairs that differ at some bit, for each bit and both ways round: what is blocked

@@ -1,7 +1,7 @@
 // The queries about guarded data, posed and answered one after another.
 use crate::guarded::{Blocked, all_blocked, blocked_by, land, split};
 use rst_check::refutes;
-use rst_clause::{ClauseStore, Clauses};
+use rst_clause::{ClauseStore, Clauses, Log};
 use rst_outside::NoMemory;
 use rst_solve::{Answer, solve};
 use std::alloc::Global;
@@ -30,11 +30,6 @@ impl Counts {
     }
 }
 
-// The answer to a query.
-fn answer(alloc: Global, query: &Clauses) -> Result<Box<Answer>, NoMemory> {
-    Ok(Box::new(alloc, solve(alloc, query, MOST_PATHS)?)?)
-}
-
 // Poses the query `land`. Whether it is refuted, and the checker confirms that.
 fn lands(
     alloc: Global,
@@ -43,23 +38,22 @@ fn lands(
     counts: &mut Counts,
 ) -> Result<bool, NoMemory> {
     let query = land(alloc, bits, blocked)?;
-    let answer = answer(alloc, &query)?;
-    match &*answer {
+    match solve(alloc, &query, MOST_PATHS)? {
         Answer::Refuted { log, paths } => {
             counts.add(paths.len());
-            refutes(alloc, &query, log)
+            refutes(alloc, &query, &log)
         }
         _ => Ok(false),
     }
 }
 
 /// What one more query says.
-#[derive(Clone, Copy)]
+#[derive(Drop)]
 pub(crate) enum Step {
     /// A set of pairs to block.
     Blocks(Blocked),
-    /// The query is refuted, and whether the checker confirms that.
-    Refuted(bool),
+    /// The query is refuted by this log.
+    Refuted(Clauses, Log),
     /// Neither.
     Neither,
 }
@@ -72,8 +66,7 @@ fn ask(
     counts: &mut Counts,
 ) -> Result<Step, NoMemory> {
     let query = split(alloc, bits, blocked)?;
-    let answer = answer(alloc, &query)?;
-    match &*answer {
+    match solve(alloc, &query, MOST_PATHS)? {
         Answer::Model { bits: model, paths } => {
             counts.add(paths.len().saturating_add(1));
             match blocked_by(bits, model.as_slice()) {
@@ -83,7 +76,7 @@ fn ask(
         }
         Answer::Refuted { log, paths } => {
             counts.add(paths.len());
-            Ok(Step::Refuted(refutes(alloc, &query, log)?))
+            Ok(Step::Refuted(query, log))
         }
         Answer::Spent { paths: _ } => Ok(Step::Neither),
     }
@@ -102,9 +95,10 @@ pub(crate) fn refine(alloc: Global, bits: u32) -> Result<Counts, NoMemory> {
     for _ in 0..MOST_PATHS {
         match ask(alloc, bits, &blocked, &mut counts)? {
             Step::Blocks(cube) => blocked.push(cube)?,
-            Step::Refuted(confirmed) => {
+            Step::Refuted(query, log) => {
                 counts.blocked = blocked.len();
-                counts.confirmed = lands(alloc, bits, &blocked, &mut counts)? && confirmed;
+                let lands = lands(alloc, bits, &blocked, &mut counts)?;
+                counts.confirmed = lands && refutes(alloc, &query, &log)?;
                 return Ok(counts);
             }
             Step::Neither => return Ok(counts),
@@ -119,44 +113,28 @@ fn last_query(alloc: Global, bits: u32) -> Result<Clauses, NoMemory> {
     split(alloc, bits, &blocked)
 }
 
-// The paths of an answer that refutes.
-fn paths_of(answer: &Answer) -> usize {
-    match answer {
-        Answer::Refuted { log: _, paths } => paths.len(),
-        _ => 0,
-    }
-}
-
 // Solves the last query so many times. The paths that it took each time.
 fn solve_last(alloc: Global, bits: u32, times: u32) -> Result<usize, NoMemory> {
     let query = last_query(alloc, bits)?;
     let mut taken = 0usize;
     for _ in 0..times {
-        let answer = answer(alloc, &query)?;
-        taken = paths_of(&answer);
+        if let Answer::Refuted { log: _, paths } = solve(alloc, &query, MOST_PATHS)? {
+            taken = paths.len();
+        }
     }
     Ok(taken)
-}
-
-// The lines of an answer's log where it refutes the query, and else 0.
-fn lines_of(alloc: Global, query: &Clauses, answer: &Answer) -> Result<usize, NoMemory> {
-    match answer {
-        Answer::Refuted { log, paths: _ } => {
-            let refuted = refutes(alloc, query, log)?;
-            Ok(if refuted { log.len() } else { 0 })
-        }
-        _ => Ok(0),
-    }
 }
 
 // Solves the last query once and replays its log so many times. The lines that the log has where
 // it refutes, and else 0.
 fn replay_last(alloc: Global, bits: u32, times: u32) -> Result<usize, NoMemory> {
     let query = last_query(alloc, bits)?;
-    let answer = answer(alloc, &query)?;
     let mut lines = 0usize;
-    for _ in 0..times {
-        lines = lines_of(alloc, &query, &answer)?;
+    if let Answer::Refuted { log, paths: _ } = solve(alloc, &query, MOST_PATHS)? {
+        for _ in 0..times {
+            let refuted = refutes(alloc, &query, &log)?;
+            lines = if refuted { log.len() } else { 0 };
+        }
     }
     Ok(lines)
 }

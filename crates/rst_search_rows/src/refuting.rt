@@ -4,9 +4,9 @@ use rst_check::refutes;
 use rst_clause::{Clause, ClauseDomain, Clauses, Lit, Log};
 use rst_outside::NoMemory;
 use rst_query_text::read;
-use rst_table::{Unlike, agree};
 use rst_value::Domain;
 use std::alloc::Global;
+use std::test::Fail;
 
 fn query(alloc: Global, both: bool) -> Result<Clauses, NoMemory> {
     let mut domain = ClauseDomain::new(alloc, 2)?;
@@ -21,75 +21,83 @@ fn query(alloc: Global, both: bool) -> Result<Clauses, NoMemory> {
     Ok(domain.finish())
 }
 
-// The clause of the numbers of a line; `0` is the empty clause.
-fn clause(alloc: Global, line: &str) -> Option<Clause> {
-    let mut clause = Clause::new(alloc);
-    for word in line.split(' ') {
-        let number = word.parse::<i32>().ok()?;
-        if number != 0 {
-            clause.push(Lit::new(number)).ok()?;
+// A log of the lines of one literal each, and the empty line where it is to end so.
+fn log_of(alloc: Global, numbers: &[i32], ends: bool) -> Result<Log, NoMemory> {
+    let mut log = Log::new(alloc);
+    for number in numbers {
+        if *number != 0 {
+            log.push(Clause::from_slice(alloc, &[Lit::new(*number)])?)?;
         }
     }
-    Some(clause)
-}
-
-// The log of lines that commas part; `-` has none.
-fn log_of(alloc: Global, lines: &str) -> Option<Log> {
-    let mut log = Log::new(alloc);
-    if lines == "-" {
-        return Some(log);
+    if ends {
+        log.push(Clause::new(alloc))?;
     }
-    for line in lines.split(", ") {
-        log.push(clause(alloc, line)?).ok()?;
-    }
-    Some(log)
+    Ok(log)
 }
 
-// Whether a log refutes the query for both, or for the first alone.
-fn verdict(alloc: Global, row: &str) -> Option<bool> {
-    let (asked, lines) = row.split_once(": ")?;
-    let clauses = query(alloc, asked == "both").ok()?;
-    let log = log_of(alloc, lines)?;
-    refutes(alloc, &clauses, &log).ok()
+// Whether the log of these lines refutes the query.
+fn verdict(alloc: Global, both: bool, numbers: &[i32], ends: bool) -> Result<bool, NoMemory> {
+    let clauses = query(alloc, both)?;
+    let log = log_of(alloc, numbers, ends)?;
+    let yes = refutes(alloc, &clauses, &log)?;
+    Ok(yes)
 }
-
-const LOGS: &str = "
-    both: 0        => true
-    both: 1, -3, 0 => true
-    both: -        => false
-    both: 1        => false
-    both: 9, 0     => false
-    both: 2147483647, 0  => false
-    both: -2147483648, 0 => false
-    one: 0         => false
-    one: 1, 0      => false
-";
 
 #[test]
-fn logs_refute_or_not(rt: HostRuntime) -> Result<(), Unlike> {
-    agree(rt.alloc(), LOGS, verdict)
+fn logs_refute_or_not(rt: HostRuntime) -> Result<(), Fail> {
+    // A number 0 stands for no line.
+    let rows = [
+        (true, [0, 0], true, true),
+        (true, [1, -3], true, true),
+        (true, [0, 0], false, false),
+        (true, [1, 0], false, false),
+        (true, [9, 0], true, false),
+        (true, [2147483647, 0], true, false),
+        (true, [-2147483648, 0], true, false),
+        (false, [0, 0], true, false),
+        (false, [1, 0], true, false),
+    ];
+    for (i, (both, numbers, ends, want)) in rows.iter().enumerate() {
+        let yes = verdict(rt.alloc(), *both, numbers, *ends)?;
+        assert_eq!(rt; yes, *want, "row {i}");
+    }
+    Ok(())
+}
+
+// A log of lines of up to two literals each; a number 0 stands for no literal.
+fn log_of_lines(alloc: Global, lines: &[[i32; 2]]) -> Result<Log, NoMemory> {
+    let mut log = Log::new(alloc);
+    for numbers in lines {
+        let mut line = Clause::new(alloc);
+        for number in numbers {
+            if *number != 0 {
+                line.push(Lit::new(*number))?;
+            }
+        }
+        log.push(line)?;
+    }
+    Ok(log)
 }
 
 // All four clauses of the two free bits, one of them with a literal twice.
-fn four_clauses(alloc: Global, lines: &str) -> Option<bool> {
-    let text = b"free 2\nrequire 1 2 2\nrequire 1 -2\nrequire -1 2\nrequire -1 -2\n";
-    let clauses = read(alloc, text).ok()?;
-    let log = log_of(alloc, lines)?;
-    refutes(alloc, &clauses, &log).ok()
-}
-
-const LINES: &str = "
-    1, 0    => true
-    1 1, 0  => true
-    1 2, 0  => false
-    1 -1, 0 => false
-    -2, 0   => true
-    0, 0    => false
-    1 2147483647, 0  => false
-    1 -2147483648, 0 => false
-";
-
 #[test]
-fn lines_with_opposites_and_repeats(rt: HostRuntime) -> Result<(), Unlike> {
-    agree(rt.alloc(), LINES, four_clauses)
+fn lines_with_opposites_and_repeats(rt: HostRuntime) -> Result<(), Fail> {
+    let alloc = rt.alloc();
+    let text = b"free 2\nrequire 1 2 2\nrequire 1 -2\nrequire -1 2\nrequire -1 -2\n";
+    let clauses = read(alloc, text)?;
+    let rows = [
+        ([[1, 0], [0, 0]], true),
+        ([[1, 1], [0, 0]], true),
+        ([[1, 2], [0, 0]], false),
+        ([[1, -1], [0, 0]], false),
+        ([[-2, 0], [0, 0]], true),
+        ([[0, 0], [0, 0]], false),
+        ([[1, 2147483647], [0, 0]], false),
+        ([[1, -2147483648], [0, 0]], false),
+    ];
+    for (i, (lines, want)) in rows.iter().enumerate() {
+        let log = log_of_lines(alloc, lines)?;
+        assert_eq!(rt; refutes(alloc, &clauses, &log)?, *want, "row {i}");
+    }
+    Ok(())
 }

@@ -3,13 +3,12 @@ ghost use Rattle.std.specs.Prelude.{◌<◌, ◌^◌, unsigned_abs};
 
 use rst_check::refutes;
 use rst_clause::{Clause, Clauses, Lit, Log};
-use rst_gate::Cube;
 use rst_outside::NoMemory;
 use rst_query_text::{Posing, read};
 use rst_solve::{Answer, solve};
-use rst_table::{Unlike, agree};
 use rst_value::Tern;
 use std::alloc::Global;
+use std::test::Fail;
 
 // Two free bits that have to differ, and both to be true as well where that is asked.
 fn two_bits(alloc: Global, both: bool) -> Result<Clauses, NoMemory> {
@@ -41,71 +40,44 @@ fn cut(alloc: Global, log: &Log) -> Result<Log, NoMemory> {
     Ok(lines)
 }
 
-// The answer to a query.
-fn answer(alloc: Global, clauses: &Clauses, most: u32) -> Result<Box<Answer>, NoMemory> {
-    Ok(Box::new(alloc, solve(alloc, clauses, most)?)?)
-}
-
-/// What an answer says of a query with these paths, as the checker sees it.
-#[derive(Clone, Copy, Debug)]
-enum Said {
-    /// The log passes whole, and whether it passes without its last line.
-    Refuted(usize, bool, bool),
-    Spent(usize),
-    /// How many bits a model has, and whether the first two differ.
-    Model(usize, bool),
-}
-
-fn seen(alloc: Global, clauses: &Clauses, answer: &Answer) -> Result<Said, NoMemory> {
-    match answer {
+#[test]
+fn a_refutation_passes_whole_and_not_cut(rt: HostRuntime) -> Result<(), Fail> {
+    let alloc = rt.alloc();
+    let clauses = two_bits(alloc, true)?;
+    match &solve(alloc, &clauses, 4)? {
         Answer::Refuted { log, paths } => {
-            let whole = refutes(alloc, clauses, log)?;
-            let cut = cut(alloc, log)?;
-            Ok(Said::Refuted(paths.len(), whole, refutes(alloc, clauses, &cut)?))
+            assert_eq!(rt; paths.len(), 1);
+            let path = paths[0].as_slice();
+            assert_eq!(rt; path, [Tern::Unknown, Tern::Unknown].as_slice());
+            assert!(rt; refutes(alloc, &clauses, log)?);
+            assert!(rt; !refutes(alloc, &clauses, &cut(alloc, log)?)?);
         }
-        Answer::Spent { paths } => Ok(Said::Spent(paths.len())),
+        _ => assert!(rt; false, "no refutation"),
+    }
+    Ok(())
+}
+
+#[test]
+fn no_path_allowed_is_spent(rt: HostRuntime) -> Result<(), Fail> {
+    let clauses = two_bits(rt.alloc(), true)?;
+    match &solve(rt.alloc(), &clauses, 0)? {
+        Answer::Spent { paths } => assert_eq!(rt; paths.len(), 0),
+        _ => assert!(rt; false, "not spent"),
+    }
+    Ok(())
+}
+
+#[test]
+fn models_solve(rt: HostRuntime) -> Result<(), Fail> {
+    let clauses = two_bits(rt.alloc(), false)?;
+    match &solve(rt.alloc(), &clauses, 100)? {
         Answer::Model { bits, paths: _ } => {
-            let bits = bits.as_slice();
-            Ok(Said::Model(bits.len(), bits.first() != bits.get(1)))
+            assert_eq!(rt; bits.len(), 2);
+            assert!(rt; bits.get(0) != bits.get(1));
         }
+        _ => assert!(rt; false, "no model"),
     }
-}
-
-// The answer for two bits that differ, and that are both true as well where that is asked, within so many paths.
-fn of_two_bits(alloc: Global, row: &str) -> Option<Said> {
-    let (asked, most) = row.split_once(" ")?;
-    let clauses = two_bits(alloc, asked == "both").ok()?;
-    let answer = answer(alloc, &clauses, most.parse::<u32>().ok()?).ok()?;
-    seen(alloc, &clauses, &answer).ok()
-}
-
-const TWO_BITS: &str = "
-    both 4  => Refuted(1, true, false)
-    both 0  => Spent(0)
-    one 100 => Model(2, true)
-";
-
-#[test]
-fn models_solve_and_refutations_pass_whole_and_not_cut(rt: HostRuntime) -> Result<(), Unlike> {
-    agree(rt.alloc(), TWO_BITS, of_two_bits)
-}
-
-// The one path of a refutation of the two bits.
-fn path(alloc: Global, row: &str) -> Option<(Tern, Tern)> {
-    let clauses = two_bits(alloc, row == "both").ok()?;
-    let answer = answer(alloc, &clauses, 4).ok()?;
-    match &*answer {
-        Answer::Refuted { log: _, paths } => match paths.first()?.as_slice() {
-            [first, second] => Some((*first, *second)),
-            _ => None,
-        },
-        _ => None,
-    }
-}
-
-#[test]
-fn a_refutation_costs_one_path_that_knows_nothing(rt: HostRuntime) -> Result<(), Unlike> {
-    agree(rt.alloc(), "both => (Unknown, Unknown)", path)
+    Ok(())
 }
 
 // Free bits of which one has to be true.
@@ -120,29 +92,30 @@ fn one_of_all(alloc: Global, free: u32) -> Result<Clauses, NoMemory> {
 }
 
 // Whether a bit of the model is true, or None where there is no model.
-fn has_true_bit(answer: &Answer) -> Option<bool> {
-    match answer {
-        Answer::Model { bits, paths: _ } => Some(bits.as_slice().contains(&true)),
-        _ => None,
+fn has_true_bit(alloc: Global, clauses: &Clauses) -> Result<Option<bool>, NoMemory> {
+    match solve(alloc, clauses, 20_000)? {
+        Answer::Model { bits, paths: _ } => {
+            let mut any = false;
+            for bit in bits.as_slice() {
+                any = any || *bit;
+            }
+            Ok(Some(any))
+        }
+        _ => Ok(None),
     }
 }
 
-// Whether the model of one clause of so many bits has one that is true.
-fn of_many(alloc: Global, free: &str) -> Option<bool> {
-    let clauses = one_of_all(alloc, free.parse::<u32>().ok()?).ok()?;
-    let answer = answer(alloc, &clauses, 20_000).ok()?;
-    has_true_bit(&answer)
-}
-
-const MANY: &str = "
-    512   => true
-    2048  => true
-    33792 => true
-";
-
 #[test]
-fn one_clause_of_many_bits_has_a_model(rt: HostRuntime) -> Result<(), Unlike> {
-    agree(rt.alloc(), MANY, of_many)
+fn one_clause_of_many_bits_has_a_model(rt: HostRuntime) -> Result<(), Fail> {
+    for free in [512u32, 2_048, 33_792] {
+        let clauses = one_of_all(rt.alloc(), free)?;
+        assert_eq!(rt;
+            has_true_bit(rt.alloc(), &clauses)?,
+            Some(true),
+            "{free} bits"
+        );
+    }
+    Ok(())
 }
 
 /// Holes for the pigeons below, of which there is one more.
@@ -176,38 +149,26 @@ fn are_apart(p: &[Tern], q: &[Tern]) -> bool {
     false
 }
 
-// Whether each path knows a place differently than each before it.
-fn are_disjoint(paths: &[Cube]) -> bool {
-    for i in 0..paths.len() {
-        for j in 0..i {
-            if !are_apart(paths[i].as_slice(), paths[j].as_slice()) {
-                return false;
+#[test]
+fn few_paths_allowed_are_spent_and_disjoint(rt: HostRuntime) -> Result<(), Fail> {
+    let clauses = pigeons(rt.alloc())?;
+    match &solve(rt.alloc(), &clauses, 3)? {
+        Answer::Spent { paths } => {
+            assert_eq!(rt; paths.len(), 3);
+            for i in 0..paths.len() {
+                for j in 0..i {
+                    assert!(rt; are_apart(paths[i].as_slice(), paths[j].as_slice()));
+                }
             }
         }
+        _ => assert!(rt; false, "not spent"),
     }
-    true
-}
-
-// How many paths the answer for the pigeons has within so many, whether they are disjoint, and whether it refutes them.
-fn of_pigeons(alloc: Global, most: &str) -> Option<(usize, bool, bool)> {
-    let clauses = pigeons(alloc).ok()?;
-    let answer = answer(alloc, &clauses, most.parse::<u32>().ok()?).ok()?;
-    match &*answer {
-        Answer::Spent { paths } => Some((paths.len(), are_disjoint(paths), false)),
+    match &solve(rt.alloc(), &clauses, 20_000)? {
         Answer::Refuted { log, paths } => {
-            let passes = refutes(alloc, &clauses, log).ok()?;
-            Some((paths.len(), are_disjoint(paths), passes))
+            assert_eq!(rt; paths.len(), 1);
+            assert!(rt; refutes(rt.alloc(), &clauses, log)?);
         }
-        _ => None,
+        _ => assert!(rt; false, "not refuted"),
     }
-}
-
-const PIGEONS: &str = "
-    3     => (3, true, false)
-    20000 => (1, true, true)
-";
-
-#[test]
-fn few_paths_allowed_are_spent_and_disjoint(rt: HostRuntime) -> Result<(), Unlike> {
-    agree(rt.alloc(), PIGEONS, of_pigeons)
+    Ok(())
 }
