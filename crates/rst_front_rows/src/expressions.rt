@@ -1,44 +1,51 @@
 // How tightly the operators of an expression hold, and how high it may be.
 use rst_grammar::{NameText, Symbol, Terminal};
-use rst_read::{Stop, expression};
+use rst_read::expression;
+use rst_table::{Unlike, agree};
 use rst_tree::Expr;
 use rst_word::BinaryOp;
-use std::alloc::{AllocError, Global};
-use std::test::Fail;
+use std::alloc::Global;
 
-// An operator, and how tightly it holds its operands.
-#[derive(Clone, Copy, Debug)]
-struct Operator {
-    mark: Terminal,
-    op: BinaryOp,
-    level: u8,
-}
+// The binary operators, each with how tightly it holds its operands, as the table of the language has them.
+const LEVELS: &str = "\
+    * 10 Mul
+    / 10 Div
+    % 10 Rem
+    + 9 Add
+    - 9 Sub
+    << 8 Shl
+    >>> 8 ArithShr
+    < 7 Lt
+    <= 7 Le
+    == 6 Eq
+    & 5 And
+    ^ 4 Xor
+    ~^ 4 Xnor
+    | 3 Or
+    && 2 LogicAnd
+    || 1 LogicOr";
 
-const fn holding(mark: Terminal, op: BinaryOp, level: u8) -> Operator {
-    Operator { mark, op, level }
-}
-
-// The binary operators by their levels, as the table of the language has them.
-fn operators(alloc: Global) -> Result<Vec<Operator>, AllocError> {
-    let table = vec![in alloc;
-        holding(Terminal::Star, BinaryOp::Mul, 10),
-        holding(Terminal::Slash, BinaryOp::Div, 10),
-        holding(Terminal::Percent, BinaryOp::Rem, 10),
-        holding(Terminal::Plus, BinaryOp::Add, 9),
-        holding(Terminal::Minus, BinaryOp::Sub, 9),
-        holding(Terminal::ShiftLeft, BinaryOp::Shl, 8),
-        holding(Terminal::ArithShiftRight, BinaryOp::ArithShr, 8),
-        holding(Terminal::Less, BinaryOp::Lt, 7),
-        holding(Terminal::LessEqual, BinaryOp::Le, 7),
-        holding(Terminal::EqualEqual, BinaryOp::Eq, 6),
-        holding(Terminal::Amp, BinaryOp::And, 5),
-        holding(Terminal::Caret, BinaryOp::Xor, 4),
-        holding(Terminal::TildeCaret, BinaryOp::Xnor, 4),
-        holding(Terminal::Bar, BinaryOp::Or, 3),
-        holding(Terminal::AmpAmp, BinaryOp::LogicAnd, 2),
-        holding(Terminal::BarBar, BinaryOp::LogicOr, 1),
-    ]?;
-    Ok(table)
+// The terminal of an operator.
+fn terminal(mark: &str) -> Option<Terminal> {
+    match mark.as_bytes() {
+        b"*" => Some(Terminal::Star),
+        b"/" => Some(Terminal::Slash),
+        b"%" => Some(Terminal::Percent),
+        b"+" => Some(Terminal::Plus),
+        b"-" => Some(Terminal::Minus),
+        b"<<" => Some(Terminal::ShiftLeft),
+        b">>>" => Some(Terminal::ArithShiftRight),
+        b"<" => Some(Terminal::Less),
+        b"<=" => Some(Terminal::LessEqual),
+        b"==" => Some(Terminal::EqualEqual),
+        b"&" => Some(Terminal::Amp),
+        b"^" => Some(Terminal::Caret),
+        b"~^" => Some(Terminal::TildeCaret),
+        b"|" => Some(Terminal::Bar),
+        b"&&" => Some(Terminal::AmpAmp),
+        b"||" => Some(Terminal::BarBar),
+        _ => None,
+    }
 }
 
 fn name<'a>() -> Symbol<'a> {
@@ -53,59 +60,67 @@ fn root(expr: &Expr) -> Option<BinaryOp> {
 }
 
 // The outer operator of `a first a second a`.
-fn outer(alloc: Global, first: Terminal, second: Terminal) -> Result<Option<BinaryOp>, Stop> {
+fn outer(alloc: Global, first: Terminal, second: Terminal) -> Option<BinaryOp> {
     let mut symbols = Vec::new(alloc);
-    symbols.push(name())?;
-    symbols.push(Symbol::Terminal(first))?;
-    symbols.push(name())?;
-    symbols.push(Symbol::Terminal(second))?;
-    symbols.push(name())?;
-    Ok(root(&expression(alloc, &symbols)?))
+    symbols.push(name()).ok()?;
+    symbols.push(Symbol::Terminal(first)).ok()?;
+    symbols.push(name()).ok()?;
+    symbols.push(Symbol::Terminal(second)).ok()?;
+    symbols.push(name()).ok()?;
+    let tree = expression(alloc, &symbols).ok()?;
+    root(&tree)
 }
 
-// The looser operator is the outer one, and of two of one level the right one.
+// The operator of a row, its level and its name.
+fn operator(row: &str) -> Option<(Terminal, u32, &str)> {
+    let mut words = row.trim().split(' ');
+    let mark = terminal(words.next()?)?;
+    let level = words.next()?.parse::<u32>().ok()?;
+    Some((mark, level, words.next()?))
+}
+
+// Whether the looser of two operators is the outer one, and of two of one level the right one.
+fn is_grouped(alloc: Global, first: &str, second: &str) -> Option<bool> {
+    let (first, tight, left) = operator(first)?;
+    let (second, loose, right) = operator(second)?;
+    let expected = if tight >= loose { right } else { left };
+    let found = format!(in alloc; "{:?}", outer(alloc, first, second)?).ok()?;
+    Some(found.as_str() == expected)
+}
+
 #[test]
-fn levels_and_grouping(rt: HostRuntime) -> Result<(), Fail> {
-    let alloc = rt.alloc();
-    let table = operators(alloc)?;
-    for first in &table {
-        for second in &table {
-            let op = if first.level >= second.level {
-                second.op
-            } else {
-                first.op
-            };
-            assert_eq!(rt; outer(alloc, first.mark, second.mark)?, Some(op));
+fn levels_and_grouping(rt: HostRuntime) {
+    for first in LEVELS.lines() {
+        for second in LEVELS.lines() {
+            let grouped = is_grouped(rt.alloc(), first, second);
+            assert!(rt; grouped == Some(true), "{first} {second}");
         }
     }
-    Ok(())
 }
 
 // Whether `(((a)))` has a tree, with this many parentheses.
-fn has_tree(alloc: Global, parentheses: u32) -> Result<bool, AllocError> {
+fn has_tree(alloc: Global, parentheses: &str) -> Option<bool> {
+    let count = parentheses.parse::<u32>().ok()?;
     let mut symbols = Vec::new(alloc);
-    for _ in 0..parentheses {
-        symbols.push(Symbol::Terminal(Terminal::OpenParen))?;
+    for _ in 0..count {
+        symbols.push(Symbol::Terminal(Terminal::OpenParen)).ok()?;
     }
-    symbols.push(name())?;
-    for _ in 0..parentheses {
-        symbols.push(Symbol::Terminal(Terminal::CloseParen))?;
+    symbols.push(name()).ok()?;
+    for _ in 0..count {
+        symbols.push(Symbol::Terminal(Terminal::CloseParen)).ok()?;
     }
-    Ok(expression(alloc, &symbols).is_ok())
+    Some(expression(alloc, &symbols).is_ok())
 }
 
+const PARENTHESES: &str = "
+    150 => true
+    199 => true
+    200 => false
+    300 => false
+    100000 => false
+";
+
 #[test]
-fn parentheses(rt: HostRuntime) -> Result<(), Fail> {
-    let alloc = rt.alloc();
-    let rows = [
-        (150, true),
-        (199, true),
-        (200, false),
-        (300, false),
-        (100_000, false),
-    ];
-    for (count, expected) in rows {
-        assert_eq!(rt; has_tree(alloc, count)?, expected, "{count}");
-    }
-    Ok(())
+fn parentheses(rt: HostRuntime) -> Result<(), Unlike> {
+    agree(rt.alloc(), PARENTHESES, has_tree)
 }

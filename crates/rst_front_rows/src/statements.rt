@@ -3,10 +3,10 @@ use rst_grammar::{NameText, Symbol, Terminal};
 use rst_lex::Literal;
 use rst_read::{MOST_HEIGHT, Stop, after, behind, read_expression};
 use rst_statement::{read_statement, read_target, statement};
+use rst_table::{Unlike, agree};
 use rst_tree::{Expr, Stmt, Target};
 use rst_word::BinaryOp;
 use std::alloc::{AllocError, Global};
-use std::test::Fail;
 
 // The terminal that a letter stands for in these tests.
 fn terminal(letter: u8) -> Option<Terminal> {
@@ -60,15 +60,23 @@ fn symbols<'a>(alloc: Global, letters: &[u8], times: u32) -> Result<Vec<Symbol<'
 }
 
 // Whether letters stand for a statement.
-fn is_statement(alloc: Global, letters: &[u8]) -> Result<bool, Stop> {
-    match statement(alloc, &symbols(alloc, letters, 1)?) {
+fn is_statement(alloc: Global, letters: &str) -> Option<bool> {
+    let symbols = symbols(alloc, letters.as_bytes(), 1).ok()?;
+    match statement(alloc, &symbols) {
         Ok(stmt) => {
             drop(stmt);
-            Ok(true)
+            Some(true)
         }
-        Err(Stop::NoTree) => Ok(false),
-        Err(stop) => Err(stop),
+        Err(Stop::NoTree) => Some(false),
+        Err(_) => None,
     }
+}
+
+// The statement that letters stand for.
+fn statement_of(alloc: Global, letters: &str) -> Option<Box<Stmt>> {
+    let symbols = symbols(alloc, letters.as_bytes(), 1).ok()?;
+    let stmt = statement(alloc, &symbols).ok()?;
+    Box::new(alloc, stmt).ok()
 }
 
 fn has_else(stmt: &Stmt) -> bool {
@@ -86,27 +94,22 @@ fn elses(stmt: &Stmt) -> (bool, bool) {
     }
 }
 
-fn elses_of(alloc: Global, letters: &[u8]) -> Result<(bool, bool), Stop> {
-    let stmt = statement(alloc, &symbols(alloc, letters, 1)?)?;
-    let found = elses(&stmt);
-    drop(stmt);
-    Ok(found)
+fn elses_of(alloc: Global, letters: &str) -> Option<(bool, bool)> {
+    let stmt = statement_of(alloc, letters)?;
+    Some(elses(&stmt))
 }
+
+const CONDITIONS: &str = "
+    i(a);          => (false, false)
+    i(a)i(a);e;    => (false, true)
+    i(a)i(a);e;e;  => (true, true)
+    i(a)bi(a);ne;  => (true, false)
+";
 
 // `else` belongs to the nearest `if` that lacks one.
 #[test]
-fn nearest_else(rt: HostRuntime) -> Result<(), Fail> {
-    let alloc = rt.alloc();
-    let rows = [
-        (b"i(a);".as_slice(), (false, false)),
-        (b"i(a)i(a);e;", (false, true)),
-        (b"i(a)i(a);e;e;", (true, true)),
-        (b"i(a)bi(a);ne;", (true, false)),
-    ];
-    for (letters, expected) in rows {
-        assert_eq!(rt; elses_of(alloc, letters)?, expected, "{letters:?}");
-    }
-    Ok(())
+fn nearest_else(rt: HostRuntime) -> Result<(), Unlike> {
+    agree(rt.alloc(), CONDITIONS, elses_of)
 }
 
 fn operator(expr: &Expr) -> Option<BinaryOp> {
@@ -124,85 +127,81 @@ fn assigned(stmt: &Stmt) -> Option<(bool, Option<BinaryOp>)> {
     }
 }
 
-fn assigned_in(alloc: Global, letters: &[u8]) -> Result<Option<(bool, Option<BinaryOp>)>, Stop> {
-    let stmt = statement(alloc, &symbols(alloc, letters, 1)?)?;
-    let found = assigned(&stmt);
-    drop(stmt);
-    Ok(found)
+fn assigned_in(alloc: Global, letters: &str) -> Option<(bool, Option<BinaryOp>)> {
+    let stmt = statement_of(alloc, letters)?;
+    assigned(&stmt)
 }
+
+const ASSIGNMENTS: &str = "
+    a<a;   => (false, None)
+    a<a<a; => (false, Some(Le))
+    a=a<a; => (true, Some(Le))
+";
 
 // The first `<=` of a statement assigns, and the second compares.
 #[test]
-fn less_equal(rt: HostRuntime) -> Result<(), Fail> {
-    let alloc = rt.alloc();
-    let rows = [
-        (b"a<a;".as_slice(), (false, None)),
-        (b"a<a<a;", (false, Some(BinaryOp::Le))),
-        (b"a=a<a;", (true, Some(BinaryOp::Le))),
-    ];
-    for (letters, expected) in rows {
-        assert_eq!(rt; assigned_in(alloc, letters)?, Some(expected), "{letters:?}");
-    }
-    Ok(())
+fn less_equal(rt: HostRuntime) -> Result<(), Unlike> {
+    agree(rt.alloc(), ASSIGNMENTS, assigned_in)
 }
+
+const STATEMENTS: &str = "
+    c(a)a,a:;d;a:;/ => true
+    c(a)d:;/  => true
+    z(a)?:;/  => true
+    c(a)?:;/  => false
+    c(a)d;d;/ => false
+    c(a)/     => false
+    bn        => true
+    b:a;a=a;n => true
+    b:;n      => false
+    b;        => false
+";
 
 #[test]
-fn cases_and_blocks(rt: HostRuntime) -> Result<(), Fail> {
-    let alloc = rt.alloc();
-    let rows = [
-        (b"c(a)a,a:;d;a:;/".as_slice(), true),
-        (b"c(a)d:;/", true),
-        (b"z(a)?:;/", true),
-        (b"c(a)?:;/", false),
-        (b"c(a)d;d;/", false),
-        (b"c(a)/", false),
-        (b"bn", true),
-        (b"b:a;a=a;n", true),
-        (b"b:;n", false),
-        (b"b;", false),
-    ];
-    for (letters, expected) in rows {
-        assert_eq!(rt; is_statement(alloc, letters)?, expected, "{letters:?}");
-    }
-    Ok(())
+fn cases_and_blocks(rt: HostRuntime) -> Result<(), Unlike> {
+    agree(rt.alloc(), STATEMENTS, is_statement)
 }
 
-// Whether there is a statement that begins so many times with the one piece and ends so with the other.
-fn has_statement(alloc: Global, times: u32, front: &[u8], back: &[u8]) -> Result<bool, AllocError> {
-    let mut all = symbols(alloc, front, times)?;
-    all.push(symbol(b';'))?;
-    for behind in symbols(alloc, back, times)? {
-        all.push(behind)?;
+// So many times the one piece, `;`, and so many times the other.
+fn nested(alloc: Global, row: &str) -> Option<Vec<Symbol<'_>>> {
+    let mut words = row.split(' ');
+    let times = words.next()?.parse::<u32>().ok()?;
+    let mut all = symbols(alloc, words.next()?.as_bytes(), times).ok()?;
+    all.push(symbol(b';')).ok()?;
+    for behind in symbols(alloc, words.next().unwrap_or("").as_bytes(), times).ok()? {
+        all.push(behind).ok()?;
     }
-    Ok(statement(alloc, &all).is_ok())
+    Some(all)
 }
+
+fn is_nested_statement(alloc: Global, row: &str) -> Option<bool> {
+    let symbols = nested(alloc, row)?;
+    Some(statement(alloc, &symbols).is_ok())
+}
+
+// How often two pieces stand around `;`, the piece in front and the one behind.
+const NESTINGS: &str = "
+    199 b n         => true
+    200 b n         => false
+    100000 b n      => false
+    199 i(a);e      => true
+    200 i(a);e      => false
+    100000 i(a);e   => false
+";
 
 // Nesting is refused past the height of 200, and takes no more calls inside one another than that.
 #[test]
-fn nesting(rt: HostRuntime) -> Result<(), Fail> {
-    let alloc = rt.alloc();
-    let rows = [
-        (199, b"b".as_slice(), b"n".as_slice(), true),
-        (200, b"b", b"n", false),
-        (100_000, b"b", b"n", false),
-        (199, b"i(a);e", b"", true),
-        (200, b"i(a);e", b"", false),
-        (100_000, b"i(a);e", b"", false),
-    ];
-    for (times, front, back, expected) in rows {
-        let found = has_statement(alloc, times, front, back)?;
-        assert_eq!(rt; found, expected, "{times} {front:?}");
-    }
-    Ok(())
+fn nesting(rt: HostRuntime) -> Result<(), Unlike> {
+    agree(rt.alloc(), NESTINGS, is_nested_statement)
 }
 
 // The height of the expression in front, and how many symbols stand behind it.
-fn expression_in(alloc: Global, letters: &[u8]) -> Result<(u32, usize), Stop> {
-    let symbols = symbols(alloc, letters, 1)?;
-    let (found, rest) = read_expression(alloc, &symbols, MOST_HEIGHT)?;
+fn expression_in(alloc: Global, letters: &str) -> Option<(u32, usize)> {
+    let symbols = symbols(alloc, letters.as_bytes(), 1).ok()?;
+    let (found, rest) = read_expression(alloc, &symbols, MOST_HEIGHT).ok()?;
     let depth = found.depth;
     drop(found);
-    Ok((depth, rest.len()))
+    Some((depth, rest.len()))
 }
 
 fn parts(target: &Target) -> usize {
@@ -213,37 +212,39 @@ fn parts(target: &Target) -> usize {
 }
 
 // The height of the target in front, how many parts it has, and how many symbols stand behind it.
-fn target_in(alloc: Global, letters: &[u8]) -> Result<(u32, usize, usize), Stop> {
-    let symbols = symbols(alloc, letters, 1)?;
-    let (found, rest) = read_target(alloc, &symbols, MOST_HEIGHT)?;
+fn target_in(alloc: Global, letters: &str) -> Option<(u32, usize, usize)> {
+    let symbols = symbols(alloc, letters.as_bytes(), 1).ok()?;
+    let (found, rest) = read_target(alloc, &symbols, MOST_HEIGHT).ok()?;
     let read = (found.depth, parts(&found.target), rest.len());
     drop(found);
-    Ok(read)
+    Some(read)
 }
 
 // The height of the statement in front, of a height of at most 1, and how many symbols stand behind it.
-fn statement_in(alloc: Global, letters: &[u8]) -> Result<(u32, usize), Stop> {
-    let symbols = symbols(alloc, letters, 1)?;
-    let (found, rest) = read_statement(alloc, &symbols, 1)?;
+fn statement_in(alloc: Global, letters: &str) -> Option<(u32, usize)> {
+    let symbols = symbols(alloc, letters.as_bytes(), 1).ok()?;
+    let (found, rest) = read_statement(alloc, &symbols, 1).ok()?;
     let depth = found.depth;
     drop(found);
-    Ok((depth, rest.len()))
+    Some((depth, rest.len()))
 }
 
 #[test]
-fn what_stands_in_front(rt: HostRuntime) -> Result<(), Fail> {
-    let alloc = rt.alloc();
-    assert_eq!(rt; expression_in(alloc, b"(a);")?, (2, 1));
-    assert_eq!(rt; target_in(alloc, b"{a,a[a],a[a:a]}=")?, (3, 3, 1));
-    assert_eq!(rt; statement_in(alloc, b";;")?, (1, 1));
-    Ok(())
+fn what_stands_in_front(rt: HostRuntime) -> Result<(), Unlike> {
+    agree(rt.alloc(), "(a); => (2, 1)", expression_in)?;
+    agree(rt.alloc(), "{a,a[a],a[a:a]}= => (3, 3, 1)", target_in)?;
+    agree(rt.alloc(), ";; => (1, 1)", statement_in)
+}
+
+// How many symbols stand behind `=`, and whether `=` and whether `;` is in front.
+fn terminals_in(alloc: Global, letters: &str) -> Option<(usize, bool, bool)> {
+    let symbols = symbols(alloc, letters.as_bytes(), 1).ok()?;
+    let rest = after(&symbols, Terminal::Equal).ok()?.len();
+    let equal = behind(&symbols, Terminal::Equal).is_some();
+    Some((rest, equal, behind(&symbols, Terminal::Semicolon).is_some()))
 }
 
 #[test]
-fn terminals(rt: HostRuntime) -> Result<(), Fail> {
-    let symbols = symbols(rt.alloc(), b"=;", 1)?;
-    assert_eq!(rt; after(&symbols, Terminal::Equal)?.len(), 1);
-    assert!(rt; behind(&symbols, Terminal::Equal).is_some());
-    assert!(rt; behind(&symbols, Terminal::Semicolon).is_none());
-    Ok(())
+fn terminals(rt: HostRuntime) -> Result<(), Unlike> {
+    agree(rt.alloc(), "=; => (1, true, false)", terminals_in)
 }

@@ -1,13 +1,22 @@
 // Trees of texts.
-use rst_lex::lex;
+use rst_lex::{LexFault, Token, lex};
 use rst_parse::{ParseFault, parse};
 use rst_tree::{Always, Assign, Expr, Item, Module, Source, Stmt};
 use std::alloc::{AllocError, Global};
-use std::test::Fail;
+
+const MOST: usize = 1_048_576;
+
+/// The tokens of a text of at most a mebibyte.
+pub(crate) fn tokens_of(alloc: Global, text: &[u8]) -> Result<Vec<Token>, LexFault> {
+    if text.len() > MOST {
+        return Err(LexFault::NoMemory);
+    }
+    lex(alloc, text)
+}
 
 /// What a text with tokens is parsed as.
 pub(crate) fn parsed(alloc: Global, text: &[u8]) -> Option<Result<Source, ParseFault>> {
-    if text.len() > 1_048_576 {
+    if text.len() > MOST {
         return None;
     }
     let tokens = lex(alloc, text).ok()?;
@@ -20,9 +29,8 @@ pub(crate) fn fault_of(alloc: Global, text: &str) -> Option<ParseFault> {
 }
 
 /// The tree of a text.
-pub(crate) fn source_of(alloc: Global, text: &str) -> Result<Source, Fail> {
-    let answer = parsed(alloc, text.as_bytes()).ok_or("tokens")?;
-    Ok(answer.ok().ok_or("a tree")?)
+pub(crate) fn source_of(alloc: Global, text: &str) -> Option<Source> {
+    parsed(alloc, text.as_bytes())?.ok()
 }
 
 /// The only module of a source.
@@ -40,9 +48,15 @@ fn around(alloc: Global, front: &str, text: &str, back: &str) -> Result<String, 
     Ok(all)
 }
 
+/// The source of a module with these items.
+pub(crate) fn with_items(alloc: Global, items: &str) -> Option<Source> {
+    let text = around(alloc, "module m; ", items, " endmodule").ok()?;
+    source_of(alloc, text.as_str())
+}
+
 /// The source of a module that assigns this expression.
-pub(crate) fn with_expr(alloc: Global, expr: &str) -> Result<Source, Fail> {
-    let text = around(alloc, "module m; assign y = ", expr, "; endmodule")?;
+pub(crate) fn with_expr(alloc: Global, expr: &str) -> Option<Source> {
+    let text = around(alloc, "module m; assign y = ", expr, "; endmodule").ok()?;
     source_of(alloc, text.as_str())
 }
 
@@ -60,8 +74,8 @@ fn value_of(assigns: &[Assign]) -> Option<&Expr> {
 }
 
 /// The source of a module with this statement.
-pub(crate) fn with_stmt(alloc: Global, stmt: &str) -> Result<Source, Fail> {
-    let text = around(alloc, "module m; always @* ", stmt, " endmodule")?;
+pub(crate) fn with_stmt(alloc: Global, stmt: &str) -> Option<Source> {
+    let text = around(alloc, "module m; always @* ", stmt, " endmodule").ok()?;
     source_of(alloc, text.as_str())
 }
 

@@ -1,45 +1,41 @@
 // Widths where an expression has a fault, stands in a wide context, or names what has no width yet, and those of targets.
 
-use crate::texts::{expr_of, only_module, source_of, with_expr};
-use crate::widths::{name_of, scope};
+use crate::texts::{expr_of, only_module, with_expr, with_items};
+use crate::widths::{Fault, kind_of, parts, scope};
 use indexmap::IndexMap;
-use rst_outside::Name;
+use rst_outside::{Name, NoMemory};
+use rst_table::{Unlike, agree};
 use rst_tree::{Assign, Item, Source, Target};
 use rst_width::{
-    Shape, TypedExpr, TypedNode, Unshaped, UnshapedNames, WidthFault, constant, constant_among,
-    own_shape, typed, typed_in, typed_target,
+    Shape, TypedExpr, TypedNode, Unshaped, UnshapedNames, constant, constant_among, own_shape,
+    typed, typed_in, typed_target,
 };
-use rst_word::Word;
 use std::alloc::Global;
-use std::test::Fail;
 
 // The width and sign of an expression, whatever faults it has.
-fn shape_of(alloc: Global, text: &str) -> Result<Shape, Fail> {
+fn shape_of(alloc: Global, text: &str) -> Option<Shape> {
     let source = with_expr(alloc, text)?;
-    let expr = expr_of(&source).ok_or("an expression")?;
-    Ok(own_shape(alloc, expr, &scope(alloc)?)?)
+    let scope = scope(alloc).ok()?;
+    own_shape(alloc, expr_of(&source)?, &scope).ok()
 }
 
+const SHAPES: &str = "
+    a / 4'd0      => Shape { width: 4, signed: false }
+    {a[9], 4'd0}  => Shape { width: 5, signed: false }
+    $signed(a[9]) => Shape { width: 1, signed: true }
+    // What a fault leaves open changes nothing around it.
+    x         => Shape { width: 0, signed: true }
+    a[0:3]    => Shape { width: 0, signed: true }
+    x + 8'sd1 => Shape { width: 8, signed: true }
+    {x, a}    => Shape { width: 4, signed: false }
+    // 65 stands for all widths above 64.
+    {70{c}}   => Shape { width: 65, signed: false }
+    x[100:0]  => Shape { width: 65, signed: false }
+";
+
 #[test]
-fn shapes_of_faulty_expressions(rt: HostRuntime) -> Result<(), Fail> {
-    let rows = [
-        ("a / 4'd0", 4, false),
-        ("{a[9], 4'd0}", 5, false),
-        ("$signed(a[9])", 1, true),
-        // What a fault leaves open changes nothing around it.
-        ("x", 0, true),
-        ("a[0:3]", 0, true),
-        ("x + 8'sd1", 8, true),
-        ("{x, a}", 4, false),
-        // 65 stands for all widths above 64.
-        ("{70{c}}", 65, false),
-        ("x[100:0]", 65, false),
-    ];
-    for (text, width, signed) in rows {
-        let expected = Shape { width, signed };
-        assert_eq!(rt; shape_of(rt.alloc(), text)?, expected, "{text}");
-    }
-    Ok(())
+fn shapes_of_faulty_expressions(rt: HostRuntime) -> Result<(), Unlike> {
+    agree(rt.alloc(), SHAPES, shape_of)
 }
 
 // The larger of two widths, signed where both are.
@@ -50,88 +46,100 @@ fn larger(a: Shape, b: Shape) -> Shape {
     }
 }
 
-// Whether an expression has a typed form in a context, or its fault.
-fn fault_in(alloc: Global, text: &str, context: Shape) -> Result<&'static str, Fail> {
+// The fault of an expression in a context.
+fn fault_in(alloc: Global, text: &str, context: Shape) -> Option<Fault> {
     let source = with_expr(alloc, text)?;
-    let expr = expr_of(&source).ok_or("an expression")?;
-    match typed_in(alloc, expr, &scope(alloc)?, context) {
+    let scope = scope(alloc).ok()?;
+    match typed_in(alloc, expr_of(&source)?, &scope, context) {
         Ok(typed) => {
             drop(typed);
-            Ok("none")
+            Some(Fault::None)
         }
-        Err(fault) => Ok(name_of(fault)),
+        Err(fault) => Some(kind_of(fault)),
     }
 }
 
-// The first fault of a selector and labels that are sized together.
-fn case_fault(alloc: Global, exprs: [&str; 3]) -> Result<&'static str, Fail> {
+// The width and sign that all of these expressions have together.
+fn common_shape(alloc: Global, exprs: &str) -> Option<Shape> {
     let mut context = Shape {
         width: 0,
         signed: true,
     };
-    for text in exprs {
+    for text in exprs.split("; ") {
         context = larger(context, shape_of(alloc, text)?);
     }
-    for text in exprs {
-        let fault = fault_in(alloc, text, context)?;
-        if fault != "none" {
-            return Ok(fault);
+    Some(context)
+}
+
+// The first fault of a selector and labels that are sized together.
+fn case_fault(alloc: Global, exprs: &str) -> Option<Fault> {
+    let context = common_shape(alloc, exprs)?;
+    for text in exprs.split("; ") {
+        match fault_in(alloc, text, context)? {
+            Fault::None => {}
+            fault => return Some(fault),
         }
     }
-    Ok("none")
+    Some(Fault::None)
 }
+
+const CASES: &str = "
+    // A wide label makes the selector too wide, which comes before the fault of its own place, ..
+    a[9]; {70{c}}; 1'd0      => TooWide
+    // .. but behind a fault in a part of it.
+    {a[9], c}; {70{c}}; 1'd0 => BadSelect
+    // The faulty label is 5 bits wide, so the divisor is 16.
+    4'd7 / (4'd15 + 4'd1); 2'd1; {a[9], 4'd0} => BadSelect
+    4'd7 / (4'd15 + 4'd1); 2'd1; 4'd0         => ZeroDivisor
+    a; 2'd1; b               => None
+";
 
 #[test]
-fn selectors_and_labels_are_sized_together(rt: HostRuntime) -> Result<(), Fail> {
-    let rows = [
-        // A wide label makes the selector too wide, which comes before the fault of its own place, ..
-        (["a[9]", "{70{c}}", "1'd0"], "TooWide"),
-        // .. but behind a fault in a part of it.
-        (["{a[9], c}", "{70{c}}", "1'd0"], "BadSelect"),
-        // The faulty label is 5 bits wide, so the divisor is 16.
-        (
-            ["4'd7 / (4'd15 + 4'd1)", "2'd1", "{a[9], 4'd0}"],
-            "BadSelect",
-        ),
-        (["4'd7 / (4'd15 + 4'd1)", "2'd1", "4'd0"], "ZeroDivisor"),
-        (["a", "2'd1", "b"], "none"),
-    ];
-    for (exprs, expected) in rows {
-        assert_eq!(rt; case_fault(rt.alloc(), exprs)?, expected, "{expected}");
-    }
-    Ok(())
+fn selectors_and_labels_are_sized_together(rt: HostRuntime) -> Result<(), Unlike> {
+    agree(rt.alloc(), CASES, case_fault)
 }
 
-// The faults of an expression in a context above 64 bits, typed and as a constant.
-fn wide_faults(alloc: Global, text: &str) -> Result<(&'static str, &'static str), Fail> {
+// The fault of an expression in a context of 200 bits.
+fn wide_fault(alloc: Global, text: &str) -> Option<Fault> {
     let source = with_expr(alloc, text)?;
-    let expr = expr_of(&source).ok_or("an expression")?;
-    let scope = scope(alloc)?;
-    let typed = match typed(alloc, expr, &scope, 200) {
+    let scope = scope(alloc).ok()?;
+    match typed(alloc, expr_of(&source)?, &scope, 200) {
         Ok(typed) => {
             drop(typed);
-            "none"
+            Some(Fault::None)
         }
-        Err(fault) => name_of(fault),
-    };
-    match constant(alloc, expr, &scope, 65) {
-        Ok(_) => Ok((typed, "none")),
-        Err(fault) => Ok((typed, name_of(fault))),
+        Err(fault) => Some(kind_of(fault)),
     }
 }
 
-#[test]
-fn contexts_above_64_bits(rt: HostRuntime) -> Result<(), Fail> {
-    let rows = [
-        ("4'd1", ("TooWide", "TooWide")),
-        ("x", ("NoName", "NoName")),
-        ("a", ("TooWide", "TooWide")),
-        ("{a, 1'd1}", ("TooWide", "NotConstant")),
-    ];
-    for (text, expected) in rows {
-        assert_eq!(rt; wide_faults(rt.alloc(), text)?, expected, "{text}");
+// The fault of an expression that has to be constant in a context of 65 bits.
+fn wide_constant_fault(alloc: Global, text: &str) -> Option<Fault> {
+    let source = with_expr(alloc, text)?;
+    let scope = scope(alloc).ok()?;
+    match constant(alloc, expr_of(&source)?, &scope, 65) {
+        Ok(_) => Some(Fault::None),
+        Err(fault) => Some(kind_of(fault)),
     }
-    Ok(())
+}
+
+const WIDE: &str = "
+    4'd1      => TooWide
+    x         => NoName
+    a         => TooWide
+    {a, 1'd1} => TooWide
+";
+
+const WIDE_CONSTANTS: &str = "
+    4'd1      => TooWide
+    x         => NoName
+    a         => TooWide
+    {a, 1'd1} => NotConstant
+";
+
+#[test]
+fn contexts_above_64_bits(rt: HostRuntime) -> Result<(), Unlike> {
+    agree(rt.alloc(), WIDE, wide_fault)?;
+    agree(rt.alloc(), WIDE_CONSTANTS, wide_constant_fault)
 }
 
 fn with(
@@ -139,7 +147,7 @@ fn with(
     names: UnshapedNames,
     text: &[u8],
     ranged: bool,
-) -> Result<UnshapedNames, Fail> {
+) -> Result<UnshapedNames, NoMemory> {
     let mut entries = names.entries;
     let name = Name::new(alloc, text)?;
     entries.insert(name, Unshaped { ranged })?;
@@ -147,7 +155,7 @@ fn with(
 }
 
 // The vector `v`, the scalar `s` and the later parameter `Q` have no width yet; nor has a `P`, which the scope has too.
-fn unshaped(alloc: Global) -> Result<UnshapedNames, Fail> {
+fn unshaped(alloc: Global) -> Result<UnshapedNames, NoMemory> {
     let names = UnshapedNames {
         entries: IndexMap::new(alloc),
     };
@@ -158,47 +166,46 @@ fn unshaped(alloc: Global) -> Result<UnshapedNames, Fail> {
 }
 
 // The word of a constant expression among names without a width, or its fault.
-fn among(alloc: Global, text: &str) -> Result<Result<Word, &'static str>, Fail> {
+fn among(alloc: Global, text: &str) -> Option<Result<(u8, bool, u64), Fault>> {
     let source = with_expr(alloc, text)?;
-    let expr = expr_of(&source).ok_or("an expression")?;
-    match constant_among(alloc, expr, &scope(alloc)?, &unshaped(alloc)?, 0) {
-        Ok(word) => Ok(Ok(word)),
-        Err(fault) => Ok(Err(name_of(fault))),
+    let scope = scope(alloc).ok()?;
+    let names = unshaped(alloc).ok()?;
+    match constant_among(alloc, expr_of(&source)?, &scope, &names, 0) {
+        Ok(word) => Some(Ok(parts(word))),
+        Err(fault) => Some(Err(kind_of(fault))),
     }
 }
 
+const UNSHAPED: &str = "
+    v => Err(NotConstant)
+    s => Err(NotConstant)
+    Q => Err(NotConstant)
+    v[70000] => Err(NotConstant)
+    s[0]     => Err(BadSelect)
+    Q[0]     => Err(BadSelect)
+    v[3:0]   => Err(NotConstant)
+    v[0:3]   => Err(BadSelect)
+    s[3:0]   => Err(BadSelect)
+    // More than 64 bits, whatever the range will be.
+    v[100:0] => Err(TooWide)
+    s[100:0] => Err(TooWide)
+    // Faults of an index or an end come first.
+    s[x]     => Err(NoName)
+    s[v:0]   => Err(NotConstant)
+    // `v` is open, so the sum has 4 bits and the divisor is 0; a bit of `v` makes it 5.
+    (4'd7 / (4'd15 + 4'd1)) + {v, 4'd0}    => Err(ZeroDivisor)
+    (4'd7 / (4'd15 + 4'd1)) + {v[0], 4'd0} => Err(NotConstant)
+    {v{1'd1}} => Err(NotConstant)
+    // The scope's own names stay what they are.
+    a    => Err(NotConstant)
+    P[0] => Err(BadSelect)
+    x    => Err(NoName)
+    P    => Ok((8, true, 255))
+";
+
 #[test]
-fn names_without_a_width(rt: HostRuntime) -> Result<(), Fail> {
-    let rows = [
-        ("v", "NotConstant"),
-        ("s", "NotConstant"),
-        ("Q", "NotConstant"),
-        ("v[70000]", "NotConstant"),
-        ("s[0]", "BadSelect"),
-        ("Q[0]", "BadSelect"),
-        ("v[3:0]", "NotConstant"),
-        ("v[0:3]", "BadSelect"),
-        ("s[3:0]", "BadSelect"),
-        // More than 64 bits, whatever the range will be.
-        ("v[100:0]", "TooWide"),
-        ("s[100:0]", "TooWide"),
-        // Faults of an index or an end come first.
-        ("s[x]", "NoName"),
-        ("s[v:0]", "NotConstant"),
-        // `v` is open, so the sum has 4 bits and the divisor is 0; a bit of `v` makes it 5.
-        ("(4'd7 / (4'd15 + 4'd1)) + {v, 4'd0}", "ZeroDivisor"),
-        ("(4'd7 / (4'd15 + 4'd1)) + {v[0], 4'd0}", "NotConstant"),
-        ("{v{1'd1}}", "NotConstant"),
-        // The scope's own names stay what they are.
-        ("a", "NotConstant"),
-        ("P[0]", "BadSelect"),
-        ("x", "NoName"),
-    ];
-    for (text, expected) in rows {
-        assert_eq!(rt; among(rt.alloc(), text)?, Err(expected), "{text}");
-    }
-    assert_eq!(rt; among(rt.alloc(), "P")?, Ok(Word::new(8, true, 255)));
-    Ok(())
+fn names_without_a_width(rt: HostRuntime) -> Result<(), Unlike> {
+    agree(rt.alloc(), UNSHAPED, among)
 }
 
 fn target_of(assigns: &[Assign]) -> Option<&Target> {
@@ -215,53 +222,55 @@ fn first_target(source: &Source) -> Option<&Target> {
 }
 
 // What stands at the root of a typed target.
-fn root(typed: &TypedExpr) -> &'static str {
+#[derive(Clone, Copy, Debug)]
+enum Root {
+    Parameter,
+    Signal,
+    Slice,
+    VariableBit,
+    JoinOfThree,
+    Another,
+}
+
+fn root_of(typed: &TypedExpr) -> Root {
     match &typed.node {
-        TypedNode::Word(_) => "parameter",
-        TypedNode::Signal(_) => "signal",
-        TypedNode::Slice(_, _, _) => "slice",
-        TypedNode::Pick(_, _) => "variable bit",
-        TypedNode::Join(parts) if parts.len() == 3 => "join of three",
-        _ => "another",
+        TypedNode::Word(_) => Root::Parameter,
+        TypedNode::Signal(_) => Root::Signal,
+        TypedNode::Slice(_, _, _) => Root::Slice,
+        TypedNode::Pick(_, _) => Root::VariableBit,
+        TypedNode::Join(parts) if parts.len() == 3 => Root::JoinOfThree,
+        _ => Root::Another,
     }
 }
 
 // The root and the width of a typed target, or its fault.
-fn target(alloc: Global, text: &str) -> Result<(&'static str, u8), Fail> {
-    let source = source_of(alloc, text)?;
-    let target = first_target(&source).ok_or("a target")?;
-    match typed_target(alloc, target, &scope(alloc)?) {
+fn target(alloc: Global, items: &str) -> Option<Result<(Root, u8), Fault>> {
+    let source = with_items(alloc, items)?;
+    let scope = scope(alloc).ok()?;
+    match typed_target(alloc, first_target(&source)?, &scope) {
         Ok(typed) => {
-            let found = (root(&typed), typed.width);
+            let found = (root_of(&typed), typed.width);
             drop(typed);
-            Ok(found)
+            Some(Ok(found))
         }
-        Err(fault) => Ok((name_of(fault), 0)),
+        Err(fault) => Some(Err(kind_of(fault))),
     }
 }
 
+const TARGETS: &str = "
+    assign a = 1;      => Ok((Signal, 4))
+    assign a[3] = 1;   => Ok((Slice, 1))
+    assign b[9:4] = 1; => Ok((Slice, 6))
+    assign a[i] = 1;   => Ok((VariableBit, 1))
+    assign P = 1;      => Ok((Parameter, 8))
+    assign {a, {c, i}, b[2]} = 1; => Ok((JoinOfThree, 8))
+    assign a[4] = 1;   => Err(BadSelect)
+    assign {a, x} = 1; => Err(NoName)
+    assign b[i] = 1;   => Err(MayLeaveRange)
+    assign {b, b, b, b, b, b, b, b, c} = 1; => Err(TooWide)
+";
+
 #[test]
-fn targets(rt: HostRuntime) -> Result<(), Fail> {
-    let rows = [
-        ("module m; assign a = 1; endmodule", ("signal", 4)),
-        ("module m; assign a[3] = 1; endmodule", ("slice", 1)),
-        ("module m; assign b[9:4] = 1; endmodule", ("slice", 6)),
-        ("module m; assign a[i] = 1; endmodule", ("variable bit", 1)),
-        ("module m; assign P = 1; endmodule", ("parameter", 8)),
-        (
-            "module m; assign {a, {c, i}, b[2]} = 1; endmodule",
-            ("join of three", 8),
-        ),
-        ("module m; assign a[4] = 1; endmodule", ("BadSelect", 0)),
-        ("module m; assign {a, x} = 1; endmodule", ("NoName", 0)),
-        ("module m; assign b[i] = 1; endmodule", ("MayLeaveRange", 0)),
-        (
-            "module m; assign {b, b, b, b, b, b, b, b, c} = 1; endmodule",
-            ("TooWide", 0),
-        ),
-    ];
-    for (text, expected) in rows {
-        assert_eq!(rt; target(rt.alloc(), text)?, expected, "{text}");
-    }
-    Ok(())
+fn targets(rt: HostRuntime) -> Result<(), Unlike> {
+    agree(rt.alloc(), TARGETS, target)
 }

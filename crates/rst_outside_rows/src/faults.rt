@@ -1,106 +1,147 @@
 // A desk and a sink that fail at one call, for every call.
-use crate::bench::two_files;
-use rst_outside::{
-    Desk, Failed, LoadError, MemoryDesk, MemorySink, NoMemory, Sink, SureDesk, SureSink,
-};
-use std::alloc::Global;
+use crate::bench::{Answer, call, done, kept_call, two_files};
+use rst_outside::{Desk, MemoryDesk, MemorySink, Sink, SureDesk, SureSink};
+use rst_table::{Unlike, agree};
+use std::alloc::{AllocError, Global};
+use std::str;
 use std::test::Fail;
 
-// Six numbered calls, and which of them succeeded.
-fn six_calls(alloc: Global, desk: &mut MemoryDesk) -> [bool; 6] {
-    let mut into = [0u8; 4];
-    [
-        desk.save_piece("c", true, b"12").is_ok(),
-        desk.save_piece("c", false, b"345").is_ok(),
-        desk.load_piece("a", 1, &mut into).is_ok(),
-        desk.load(alloc, "a", 3).is_ok(),
-        desk.save_piece("c", false, b"6").is_ok(),
-        desk.load_piece("b", 0, &mut into).is_ok(),
-    ]
+// Six numbered calls.
+const CALLS: &str = "\
+    first c 12
+    next c 345
+    piece a 1 4
+    load a 3
+    next c 6
+    piece b 0 4";
+
+fn mark(succeeded: bool) -> char {
+    if succeeded { '+' } else { '-' }
 }
 
-// What stands under `c` where the call of this number failed, and 6 is none.
-const SAVED: [&[u8]; 7] = [
-    b"3456", b"126", b"123456", b"123456", b"12345", b"123456", b"123456",
-];
-
-#[test]
-fn a_desk_fails_at_the_call_that_it_is_told(rt: HostRuntime) -> Result<(), Fail> {
-    let alloc = rt.alloc();
-    let mut number = 0u32;
-    for saved in SAVED {
-        let failing = vec![in alloc; number]?;
-        let mut desk = MemoryDesk::new(alloc, two_files(alloc)?, failing);
-        desk.reserve("c", 6)?;
-        let succeeded = six_calls(alloc, &mut desk);
-        for (i, ok) in succeeded.iter().enumerate() {
-            assert_eq!(rt; *ok, i != number as usize, "call {i} of {number}");
-        }
-        assert_eq!(rt; desk.file("c"), Some(saved), "{number}");
-        assert_eq!(rt; desk.file("a"), Some(b"abc".as_slice()), "{number}");
-        number = number.saturating_add(1);
+// The calls, `+` for each that succeeded and `-` for each that failed.
+fn outcomes<K: Desk>(alloc: Global, desk: &mut K) -> Option<String> {
+    let mut outcomes = String::new(alloc);
+    for row in CALLS.lines() {
+        let answer = call(alloc, desk, row.trim())?;
+        outcomes.push(mark(answer.is_ok())).ok()?;
     }
-    Ok(())
+    Some(outcomes)
 }
 
-// The bytes that a sink takes of three puts, where the put of this number failed, and 3 is none.
-const TAKEN: [&[u8]; 4] = [b"cde", b"abcde", b"ab", b"abcde"];
-
-// Three numbered puts, and which of them succeeded.
-fn three_puts(sink: &mut MemorySink) -> [bool; 3] {
-    [
-        sink.put(b"ab").is_ok(),
-        sink.put(b"").is_ok(),
-        sink.put(b"cde").is_ok(),
-    ]
+fn owned(alloc: Global, bytes: &[u8]) -> Option<String> {
+    String::from_str(alloc, str::from_utf8(bytes).ok()?).ok()
 }
+
+// What succeeds on a desk that fails at the call of a number, and what stands under `c` and `a` then.
+fn failing_desk(alloc: Global, number: &str) -> Option<(String, String, String)> {
+    let failing = vec![in alloc; number.parse::<u32>().ok()?].ok()?;
+    let mut desk = MemoryDesk::new(alloc, two_files(alloc).ok()?, failing);
+    desk.reserve("c", 6).ok()?;
+    let outcomes = outcomes(alloc, &mut desk)?;
+    let saved = owned(alloc, desk.file("c")?)?;
+    let kept = owned(alloc, desk.file("a")?)?;
+    Some((outcomes, saved, kept))
+}
+
+const DESKS: &str = r#"
+    0 => ("-+++++", "3456", "abc")
+    1 => ("+-++++", "126", "abc")
+    2 => ("++-+++", "123456", "abc")
+    3 => ("+++-++", "123456", "abc")
+    4 => ("++++-+", "12345", "abc")
+    5 => ("+++++-", "123456", "abc")
+    6 => ("++++++", "123456", "abc")
+"#;
 
 #[test]
-fn a_sink_fails_at_the_put_that_it_is_told(rt: HostRuntime) -> Result<(), Fail> {
-    let alloc = rt.alloc();
-    let mut number = 0u32;
-    for taken in TAKEN {
-        let mut sink = MemorySink::new(alloc, vec![in alloc; number]?);
-        sink.reserve(5)?;
-        for (i, ok) in three_puts(&mut sink).iter().enumerate() {
-            assert_eq!(rt; *ok, i != number as usize, "put {i} of {number}");
-        }
-        assert_eq!(rt; sink.taken(), taken, "{number}");
-        number = number.saturating_add(1);
+fn a_desk_fails_at_the_call_that_it_is_told(rt: HostRuntime) -> Result<(), Unlike> {
+    agree(rt.alloc(), DESKS, failing_desk)
+}
+
+// Three numbered puts, `+` for each that succeeded and `-` for each that failed.
+fn three_puts<S: Sink>(alloc: Global, sink: &mut S) -> Option<String> {
+    let mut outcomes = String::new(alloc);
+    for piece in "ab,,cde".split(',') {
+        outcomes
+            .push(mark(sink.put(piece.as_bytes()).is_ok()))
+            .ok()?;
     }
-    Ok(())
+    Some(outcomes)
 }
 
-// Loads of a desk without numbers that fail: what each answers.
-fn load_error(alloc: Global, desk: &mut SureDesk, name: &str, limit: u32) -> Option<LoadError> {
-    desk.load(alloc, name, u64::from(limit)).err()
+// What succeeds on a sink that fails at the put of a number, and what it takes.
+fn failing_sink(alloc: Global, number: &str) -> Option<(String, String)> {
+    let failing = vec![in alloc; number.parse::<u32>().ok()?].ok()?;
+    let mut sink = MemorySink::new(alloc, failing);
+    sink.reserve(5).ok()?;
+    let outcomes = three_puts(alloc, &mut sink)?;
+    Some((outcomes, owned(alloc, sink.taken())?))
 }
+
+const SINKS: &str = r#"
+    0 => ("-++", "cde")
+    1 => ("+-+", "abcde")
+    2 => ("++-", "ab")
+    3 => ("+++", "abcde")
+"#;
 
 #[test]
-fn sure_kinds_fail_only_without_a_file_or_without_room(rt: HostRuntime) -> Result<(), NoMemory> {
+fn a_sink_fails_at_the_put_that_it_is_told(rt: HostRuntime) -> Result<(), Unlike> {
+    agree(rt.alloc(), SINKS, failing_sink)
+}
+
+const SURE_DESK: &str = r#"
+    load a 3     => Ok("abc")
+    load a 2     => Err(TooLong)
+    load no 3    => Err(Failed)
+    first c      => Err(Failed)
+    room c 3     => Ok("")
+    first c 1234 => Err(Failed)
+    first c 123  => Ok("")
+    file c       => Ok("123")
+"#;
+
+#[test]
+fn a_sure_desk_fails_only_without_a_file_or_without_room(rt: HostRuntime) -> Result<(), Fail> {
     let alloc = rt.alloc();
     let mut desk = SureDesk::new(alloc, two_files(alloc)?);
-    assert_eq!(rt; load_error(alloc, &mut desk, "a", 3), None);
-    assert_eq!(rt;
-        load_error(alloc, &mut desk, "a", 2),
-        Some(LoadError::TooLong)
-    );
-    assert_eq!(rt;
-        load_error(alloc, &mut desk, "no", 3),
-        Some(LoadError::Failed)
-    );
-    assert_eq!(rt; desk.save_piece("c", true, b""), Err(Failed));
-    desk.reserve("c", 3)?;
-    assert_eq!(rt; desk.save_piece("c", true, b"1234"), Err(Failed));
-    assert_eq!(rt; desk.save_piece("c", true, b"123"), Ok(()));
-    assert_eq!(rt; desk.file("c"), Some(b"123".as_slice()));
-
-    let mut sink = SureSink::new(alloc);
-    assert_eq!(rt; sink.put(b"x"), Err(Failed));
-    sink.reserve(3)?;
-    assert_eq!(rt; sink.put(b"xy"), Ok(()));
-    assert_eq!(rt; sink.put(b"zz"), Err(Failed));
-    assert_eq!(rt; sink.put(b"z"), Ok(()));
-    assert_eq!(rt; sink.taken(), b"xyz".as_slice());
+    agree(
+        alloc,
+        SURE_DESK,
+        |alloc, row| kept_call(alloc, &mut desk, row),
+    )?;
     Ok(())
+}
+
+// A call of a sink: `put BYTES`, `room` for three bytes, and all that was `taken`.
+fn sink_call(alloc: Global, sink: &mut SureSink, row: &str) -> Option<Answer> {
+    match row {
+        "room" => Some(done(alloc, sink.reserve(3).is_ok())),
+        "taken" => Some(Ok(owned(alloc, sink.taken())?)),
+        _ => {
+            let piece = row.strip_prefix("put ")?;
+            Some(done(alloc, sink.put(piece.as_bytes()).is_ok()))
+        }
+    }
+}
+
+const SURE_SINK: &str = r#"
+    put x  => Err(Failed)
+    room   => Ok("")
+    put xy => Ok("")
+    put zz => Err(Failed)
+    put z  => Ok("")
+    taken  => Ok("xyz")
+"#;
+
+#[test]
+fn a_sure_sink_fails_only_without_room(rt: HostRuntime) -> Result<(), Unlike> {
+    let alloc = rt.alloc();
+    let mut sink = SureSink::new(alloc);
+    agree(
+        alloc,
+        SURE_SINK,
+        |alloc, row| sink_call(alloc, &mut sink, row),
+    )
 }

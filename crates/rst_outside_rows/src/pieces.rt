@@ -1,99 +1,101 @@
 // What is saved in pieces is read back, whatever their lengths.
-use crate::bench::{long_text, read_in_pieces, save_in_pieces, two_files};
-use rst_outside::{Desk, Failed, MemoryDesk, SureDesk};
+use crate::bench::{kept_call, long_text, read_in_pieces, save_in_pieces, two_files};
+use rst_outside::{MemoryDesk, SureDesk};
+use rst_table::agree;
+use std::alloc::Global;
 use std::test::Fail;
-
-const SIZES: [usize; 3] = [1, 7, 65_536];
 
 const LENGTH: u32 = 70_000;
 
+// Whether a text stands where it is saved in pieces of a size, and is read back in pieces of that size.
+fn saved_and_read(
+    alloc: Global,
+    desk: &mut SureDesk,
+    text: &[u8],
+    size: usize,
+) -> Option<(bool, bool)> {
+    save_in_pieces(desk, "c", text, size).ok()?;
+    let stands = desk.file("c") == Some(text);
+    let back = read_in_pieces(alloc, desk, "c", size).ok()?;
+    Some((stands, back.as_slice() == text))
+}
+
+fn reads_back(alloc: Global, size: &str) -> Option<(bool, bool)> {
+    let size = size.parse::<usize>().ok()?;
+    let text = long_text(alloc, LENGTH).ok()?;
+    let mut desk = SureDesk::new(alloc, two_files(alloc).ok()?);
+    desk.reserve("c", u64::from(LENGTH)).ok()?;
+    saved_and_read(alloc, &mut desk, &text, size)
+}
+
+const SIZES: &str = "
+    1     => (true, true)
+    7     => (true, true)
+    65536 => (true, true)
+";
+
 #[test]
 fn reads_back_what_was_saved_in_pieces(rt: HostRuntime) -> Result<(), Fail> {
-    let alloc = rt.alloc();
-    let text = long_text(alloc, LENGTH)?;
-    for size in SIZES {
-        let mut desk = SureDesk::new(alloc, two_files(alloc)?);
-        desk.reserve("c", u64::from(LENGTH))?;
-        assert_eq!(rt;
-            save_in_pieces(&mut desk, "c", &text, size),
-            Ok(()),
-            "{size}"
-        );
-        assert_eq!(rt; desk.file("c"), Some(text.as_slice()), "{size}");
-        let back = read_in_pieces(alloc, &mut desk, "c", size)?;
-        assert_eq!(rt; back.as_slice(), text.as_slice(), "{size}");
-    }
+    agree(rt.alloc(), SIZES, reads_back)?;
     Ok(())
 }
 
-/// Whether a piece is the first, the piece, whether it is saved, and what stands there then.
-type Step = (bool, &'static [u8], bool, &'static [u8]);
-
-// Steps on the file `abc` with room for 8 bytes more.
-const STEPS: [Step; 5] = [
-    (false, b"de", true, b"abcde"),
-    (false, b"", true, b"abcde"),
-    (true, b"xyz", true, b"xyz"),
-    (false, b"1234", false, b"xyz"),
-    (false, b"123", true, b"xyz123"),
-];
+const STEPS: &str = r#"
+    room a 8     => Ok("")
+    next a de    => Ok("")
+    file a       => Ok("abcde")
+    next a       => Ok("")
+    file a       => Ok("abcde")
+    first a xyz  => Ok("")
+    file a       => Ok("xyz")
+    next a 1234  => Err(Failed)
+    file a       => Ok("xyz")
+    next a 123   => Ok("")
+    file a       => Ok("xyz123")
+"#;
 
 #[test]
 fn a_piece_goes_behind_what_stands_there(rt: HostRuntime) -> Result<(), Fail> {
     let alloc = rt.alloc();
     let mut desk = MemoryDesk::new(alloc, two_files(alloc)?, Vec::new(alloc));
-    desk.reserve("a", 8)?;
-    for (first, piece, saved, bytes) in STEPS {
-        let ok = desk.save_piece("a", first, piece).is_ok();
-        assert_eq!(rt; ok, saved);
-        assert_eq!(rt; desk.file("a"), Some(bytes));
-    }
+    agree(alloc, STEPS, |alloc, row| kept_call(alloc, &mut desk, row))?;
     Ok(())
 }
+
+const ROOMS: &str = r#"
+    next a      => Err(Failed)
+    room a 8    => Ok("")
+    first a xyz => Ok("")
+    room c 2    => Ok("")
+    next a 1    => Err(Failed)
+    next c 12   => Ok("")
+    file a      => Ok("xyz")
+    file c      => Ok("12")
+"#;
 
 #[test]
 fn there_is_room_for_one_name(rt: HostRuntime) -> Result<(), Fail> {
     let alloc = rt.alloc();
     let mut desk = MemoryDesk::new(alloc, two_files(alloc)?, Vec::new(alloc));
-    assert!(rt; desk.save_piece("a", false, b"").is_err());
-    desk.reserve("a", 8)?;
-    assert!(rt; desk.save_piece("a", true, b"xyz").is_ok());
-    desk.reserve("c", 2)?;
-    assert!(rt; desk.save_piece("a", false, b"1").is_err());
-    assert!(rt; desk.save_piece("c", false, b"12").is_ok());
-    assert_eq!(rt; desk.file("a"), Some(b"xyz".as_slice()));
-    assert_eq!(rt; desk.file("c"), Some(b"12".as_slice()));
+    agree(alloc, ROOMS, |alloc, row| kept_call(alloc, &mut desk, row))?;
     Ok(())
 }
 
-// Whether a piece of at most nine bytes of the file, from a place on, is this.
-fn gives<K: Desk>(desk: &mut K, name: &str, from: u64, bytes: &[u8]) -> bool {
-    let mut into = [0u8; 9];
-    match desk.load_piece(name, from, &mut into) {
-        Ok(count) => &into[..count as usize] == bytes,
-        Err(Failed) => false,
-    }
-}
+const PIECES: &str = r#"
+    piece a 0  => Ok("abc")
+    piece a 2  => Ok("c")
+    piece a 3  => Ok("")
+    piece a 18446744073709551615 => Ok("")
+    piece b 0  => Ok("")
+    piece no 0 => Err(Failed)
+    // Two bytes of room.
+    piece a 0 2 => Ok("ab")
+"#;
 
 #[test]
-fn a_piece_ends_with_the_file(rt: HostRuntime) -> Result<(), Fail> {
+fn a_piece_ends_with_the_file_or_its_room(rt: HostRuntime) -> Result<(), Fail> {
     let alloc = rt.alloc();
     let mut desk = SureDesk::new(alloc, two_files(alloc)?);
-    assert!(rt; gives(&mut desk, "a", 0, b"abc"));
-    assert!(rt; gives(&mut desk, "a", 2, b"c"));
-    assert!(rt; gives(&mut desk, "a", 3, b""));
-    assert!(rt; gives(&mut desk, "a", u64::MAX, b""));
-    assert!(rt; gives(&mut desk, "b", 0, b""));
-    assert!(rt; !gives(&mut desk, "no", 0, b""));
-    Ok(())
-}
-
-#[test]
-fn a_piece_ends_with_its_room(rt: HostRuntime) -> Result<(), Fail> {
-    let alloc = rt.alloc();
-    let mut desk = SureDesk::new(alloc, two_files(alloc)?);
-    let mut into = [0u8; 2];
-    assert_eq!(rt; desk.load_piece("a", 0, &mut into), Ok(2));
-    assert_eq!(rt; into.as_slice(), b"ab".as_slice());
+    agree(alloc, PIECES, |alloc, row| kept_call(alloc, &mut desk, row))?;
     Ok(())
 }
