@@ -1,4 +1,5 @@
 // Clauses are added while no decision stands.
+use crate::arena::given;
 use crate::assignment::{FALSE, OPEN, Reason, TRUE};
 use crate::cells::{byte, code};
 use crate::search::Search;
@@ -29,13 +30,13 @@ impl Search {
         Ok(Some(kept))
     }
 
-    // Adds a clause of open literals, each of them once.
-    fn add_simple(&mut self, lits: &[u32]) -> Result<(), AllocError> {
+    // Adds a clause of open literals, each of them once, what is left of the one with the number.
+    fn add_simple(&mut self, lits: &[u32], number: u32) -> Result<(), AllocError> {
         if lits.is_empty() {
             return self.refute();
         }
         if lits.len() > 1 {
-            self.attach(0, 0, lits)?;
+            self.attach(0, given(number), lits)?;
             return Ok(());
         }
         self.assignment.assign(lits[0], 0, Reason::Decision);
@@ -58,6 +59,8 @@ impl Search {
 
     /// Adds a clause.
     pub fn add(&mut self, lits: &[i32]) -> Result<(), AllocError> {
+        let number = self.added;
+        self.added = number.saturating_add(1);
         if self.refuted {
             return Ok(());
         }
@@ -65,7 +68,7 @@ impl Search {
         let simple = self.simplify(lits)?;
         self.analyzer.forget();
         if let Some(kept) = simple {
-            self.add_simple(&kept)?;
+            self.add_simple(&kept, number)?;
         }
         Ok(())
     }

@@ -3,6 +3,7 @@
 use crate::arena::Arena;
 use crate::assignment::{Assignment, Reason};
 use crate::cells::{byte, narrow, set_byte, set_word, word};
+use crate::hint::{Step, last_step, step_of};
 use crate::propagate::Conflict;
 use crate::scores::Scores;
 use crate::uses::{code_of_line, code_of_variable};
@@ -22,8 +23,9 @@ pub struct Analyzer {
     pub seen_list: Vec<u32>,
     /// The learnt clause.
     pub learnt: Vec<u32>,
-    /// What it was derived from.
+    /// What it was derived from, and the clauses in the order of the trail.
     pub uses: Vec<u32>,
+    pub steps: Vec<Step>,
     stack: Vec<u32>,
     /// By level, the last conflict at which it was met.
     stamps: Vec<u32>,
@@ -55,6 +57,7 @@ impl Analyzer {
             seen_list: Vec::new(alloc),
             learnt: Vec::new(alloc),
             uses: Vec::new(alloc),
+            steps: Vec::new(alloc),
             stack: Vec::new(alloc),
             stamps: vec![in alloc; 0u32; slots + 1]?,
             stamp: 0,
@@ -82,6 +85,19 @@ impl Analyzer {
     pub fn note_line(&mut self, line: u32) -> Result<(), AllocError> {
         if line != 0 {
             self.uses.push(code_of_line(line.wrapping_sub(1)))?;
+        }
+        Ok(())
+    }
+
+    // What made the literal true is used.
+    fn note_step(
+        &mut self,
+        assignment: &Assignment,
+        arena: &Arena,
+        lit: u32,
+    ) -> Result<(), AllocError> {
+        if let Some(step) = step_of(assignment, arena, lit) {
+            self.steps.push(step)?;
         }
         Ok(())
     }
@@ -152,6 +168,7 @@ impl Analyzer {
         scores: &mut Scores,
         lit: u32,
     ) -> Result<(), AllocError> {
+        self.note_step(assignment, arena, lit)?;
         match assignment.origin(lit >> 1).reason {
             Reason::Decision | Reason::Learnt(_) => Ok(()),
             Reason::Binary(other) => self.analyze_literal(assignment, scores, other),
@@ -251,6 +268,7 @@ impl Analyzer {
         arena: &Arena,
         variable: u32,
     ) -> Result<bool, AllocError> {
+        self.note_step(assignment, arena, assignment.standing(variable))?;
         match assignment.origin(variable).reason {
             Reason::Decision | Reason::Learnt(_) => Ok(false),
             Reason::Binary(other) => self.may_follow(assignment, other >> 1),
@@ -305,9 +323,11 @@ impl Analyzer {
             let lit = word(&self.learnt, k);
             let before = self.seen_list.len();
             let used = self.uses.len();
+            let steps = self.steps.len();
             if !self.is_redundant(assignment, arena, lit >> 1)? {
                 self.forget_since(before);
                 self.uses.truncate(used);
+                self.steps.truncate(steps);
                 set_word(&mut self.learnt, kept, lit);
                 kept = kept.wrapping_add(1);
             }
@@ -344,12 +364,15 @@ impl Analyzer {
     ) -> Result<Learnt, AllocError> {
         self.open = 0;
         self.uses.clear();
+        self.steps.clear();
         self.learnt.clear();
         self.learnt.push(0)?;
         self.analyze_conflict(assignment, arena, scores, conflict)?;
         self.resolve(assignment, arena, scores)?;
         let glue = self.glue(assignment);
         self.minimize(assignment, arena)?;
+        self.steps.sort_unstable_by_key(|step| step.place);
+        self.steps.push(last_step(arena, conflict))?;
         let back = self.put_second(assignment);
         self.forget();
         Ok(Learnt { back, glue })

@@ -41,6 +41,8 @@ pub struct Assignment {
     pub origins: Vec<Origin>,
     /// By variable, the last value: 1 for true.
     pub phases: Vec<u8>,
+    /// By variable, where it stands on the trail.
+    places: Vec<u32>,
     pub trail: Vec<u32>,
     /// How many literals stand.
     pub count: u32,
@@ -64,6 +66,7 @@ impl Assignment {
             values: vec![in alloc; OPEN; 2 * slots]?,
             origins: vec![in alloc; first; slots]?,
             phases: vec![in alloc; 0u8; slots]?,
+            places: vec![in alloc; 0u32; slots]?,
             trail: vec![in alloc; 0u32; slots]?,
             count: 0,
             propagated: 0,
@@ -111,6 +114,24 @@ impl Assignment {
         self.origin(variable).level
     }
 
+    /// Where the variable stands on the trail.
+    pub fn place_of(&self, variable: u32) -> u32 {
+        word(&self.places, variable)
+    }
+
+    /// Writes the literal at the place of the trail.
+    #[inline(always)]
+    pub fn put(&mut self, place: u32, lit: u32) {
+        set_word(&mut self.trail, place, lit);
+        set_word(&mut self.places, lit >> 1, place);
+    }
+
+    /// The literal of the variable that stands.
+    pub fn standing(&self, variable: u32) -> u32 {
+        let high = variable << 1;
+        if self.is_true(high) { high } else { high | 1 }
+    }
+
     /// The literal stands from now on, on a level.
     #[inline(always)]
     pub fn assign(&mut self, lit: u32, level: u32, reason: Reason) {
@@ -120,7 +141,7 @@ impl Assignment {
         if i < self.origins.len() {
             self.origins[i] = Origin { level, reason };
         }
-        set_word(&mut self.trail, self.count, lit);
+        self.put(self.count, lit);
         self.count = self.count.wrapping_add(1);
     }
 

@@ -2,6 +2,7 @@
 use crate::arena::HEADER;
 use crate::assignment::Reason;
 use crate::cells::{byte, code, number, word};
+use crate::hint::step_of;
 use crate::search::Search;
 use std::alloc::AllocError;
 
@@ -17,6 +18,9 @@ impl Search {
 
     // Meets what made the variable's literal true; notes it where it was assumed.
     fn trace(&mut self, lit: u32, core: &mut Vec<i32>) -> Result<(), AllocError> {
+        if let Some(step) = step_of(&self.assignment, &self.arena, lit) {
+            self.analyzer.steps.push(step)?;
+        }
         match self.assignment.origin(lit >> 1).reason {
             Reason::Decision => core.push(number(lit))?,
             Reason::Learnt(_) => {}
@@ -44,6 +48,7 @@ impl Search {
         let mut core = Vec::new(self.alloc);
         core.push(number(fails))?;
         self.analyzer.uses.clear();
+        self.analyzer.steps.clear();
         self.meet(fails)?;
         let floor = word(&self.assignment.starts, 0);
         let end = if self.assignment.level == 0 {
@@ -58,6 +63,7 @@ impl Search {
                 self.trace(lit, &mut core)?;
             }
         }
+        self.analyzer.steps.reverse();
         self.analyzer.forget();
         Ok(core)
     }

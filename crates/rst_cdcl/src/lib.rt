@@ -12,6 +12,7 @@ mod assignment;
 mod cells;
 mod conflicts;
 mod failed;
+mod hint;
 mod log;
 mod propagate;
 mod queue;
@@ -23,5 +24,6 @@ mod solver;
 mod uses;
 mod watches;
 
+pub use hint::Hint;
 pub use log::Log;
 pub use solver::{Outcome, Solver};

@@ -65,9 +65,9 @@ fn move_clause(
     clause: u32,
 ) -> Result<u32, AllocError> {
     let glue = arena.glue(clause);
-    let line = arena.line(clause);
+    let origin = arena.origin(clause);
     let place = fresh
-        .push(glue, line, arena.lits(clause))?
+        .push(glue, origin, arena.lits(clause))?
         .wrapping_add(base);
     arena.set_glue(clause, place);
     Ok(place)

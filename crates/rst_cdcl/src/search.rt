@@ -1,8 +1,8 @@
 // The search: what was decided and what follows from it, the clauses, and what was learnt.
 use crate::analyze::{Analyzer, Learnt};
-use crate::arena::Arena;
+use crate::arena::{Arena, is_learnt};
 use crate::assignment::{Assignment, FALSE, OPEN, Reason};
-use crate::cells::{byte, code, narrow, set_word, word};
+use crate::cells::{byte, code, narrow, word};
 use crate::log::Log;
 use crate::propagate::{Conflict, propagate};
 use crate::reduce::reduce;
@@ -37,6 +37,8 @@ pub struct Search {
     /// The empty clause was learnt.
     pub refuted: bool,
     pub decisions: u64,
+    /// How many clauses were added.
+    pub added: u32,
     pub luby: Luby,
     /// Conflicts since the last restart.
     pub since_restart: u64,
@@ -68,6 +70,7 @@ impl Search {
             uses: Uses::new(alloc),
             refuted: false,
             decisions: 0,
+            added: 0,
             luby: Luby::new(),
             since_restart: 0,
         })
@@ -94,7 +97,7 @@ impl Search {
                 self.assignment.unassign(lit);
                 self.scores.insert(lit >> 1);
             } else {
-                set_word(&mut self.assignment.trail, kept, lit);
+                self.assignment.put(kept, lit);
                 kept = kept.wrapping_add(1);
             }
         }
@@ -119,23 +122,23 @@ impl Search {
         self.watches.push(lit ^ 1, Watch { clause, blocker })
     }
 
-    /// Adds a clause of two literals or more, with its number in the log, from 1, or 0. What makes its first literal true once all others
-    /// are false.
-    pub fn attach(&mut self, glue: u32, line: u32, lits: &[u32]) -> Result<Reason, AllocError> {
+    /// Adds a clause of two literals or more, of this origin. What makes its first literal true once
+    /// all others are false.
+    pub fn attach(&mut self, glue: u32, origin: u32, lits: &[u32]) -> Result<Reason, AllocError> {
         let first = word(lits, 0);
         let second = word(lits, 1);
-        if lits.len() == 2 && line == 0 {
+        if lits.len() == 2 && !is_learnt(origin) {
             self.watch(BINARY, first, second)?;
             return Ok(Reason::Binary(second));
         }
-        if lits.len() == 3 && line == 0 {
+        if lits.len() == 3 && !is_learnt(origin) {
             let third = word(lits, 2);
             self.watch_ternary(first, second, third)?;
             self.watch_ternary(second, third, first)?;
             self.watch_ternary(third, first, second)?;
             return Ok(Reason::Ternary(second, third));
         }
-        let clause = self.arena.push(glue, line, lits)?;
+        let clause = self.arena.push(glue, origin, lits)?;
         self.watch(clause, first, second)?;
         Ok(Reason::Clause(clause))
     }
@@ -148,9 +151,10 @@ impl Search {
 
     /// One more clause of the log, with what it was derived from.
     pub fn learn_line(&mut self, lits: &[u32]) -> Result<(), AllocError> {
-        self.log.push(lits)?;
+        self.log.push(lits, &self.analyzer.steps)?;
         self.uses.push(&self.analyzer.uses)?;
         self.analyzer.uses.clear();
+        self.analyzer.steps.clear();
         Ok(())
     }
 
@@ -277,7 +281,7 @@ impl Search {
         let Learnt { back, glue } = self
             .analyzer
             .learn(&self.assignment, &self.arena, &mut self.scores, conflict)?;
-        self.log.push(&self.analyzer.learnt)?;
+        self.log.push(&self.analyzer.learnt, &self.analyzer.steps)?;
         self.uses.push(&self.analyzer.uses)?;
         self.scores.decay();
         let target = self.target(back, assumed);

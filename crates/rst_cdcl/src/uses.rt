@@ -1,7 +1,7 @@
 // What each learnt clause was derived from, and which clauses the last one needs.
 use crate::arena::Arena;
 use crate::assignment::{Assignment, Reason};
-use crate::cells::{byte, narrow, set_byte};
+use crate::cells::{byte, narrow, set_byte, set_word};
 use crate::log::Log;
 use std::alloc::{AllocError, Global};
 
@@ -157,10 +157,12 @@ impl Uses {
         log: &Log,
     ) -> Result<Log, AllocError> {
         let needed = self.needed(alloc, assignment, arena)?;
+        let mut places = vec![in alloc; 0u32; log.len()]?;
         let mut kept = Log::new(alloc);
         for line in 0..log.len() {
             if byte(&needed, narrow(line)) != 0 {
-                kept.push_numbers(log.get(line))?;
+                set_word(&mut places, narrow(line), narrow(kept.len()));
+                kept.push_moved(log, line, &places)?;
             }
         }
         Ok(kept)
