@@ -17,8 +17,8 @@ pub struct Log {
 }
 
 impl Log {
-    // No clause.
-    pub(crate) fn new(alloc: Global) -> Log {
+    /// No clause.
+    pub fn new(alloc: Global) -> Log {
         Log {
             lits: Vec::new(alloc),
             ends: Vec::new(alloc),
@@ -36,6 +36,19 @@ impl Log {
         if steps.len() <= MOST_HINTS.saturating_sub(self.hints.len()) {
             for step in steps {
                 self.hints.push(step.hint)?;
+            }
+        }
+        self.hint_ends.push(self.hints.len())?;
+        Ok(())
+    }
+
+    /// One more clause, of literals by their numbers, and what it was derived from.
+    pub fn note(&mut self, clause: &[i32], hints: &[Hint]) -> Result<(), AllocError> {
+        self.lits.extend_from_slice(clause)?;
+        self.ends.push(self.lits.len())?;
+        if hints.len() <= MOST_HINTS.saturating_sub(self.hints.len()) {
+            for hint in hints {
+                self.hints.push(*hint)?;
             }
         }
         self.hint_ends.push(self.hints.len())?;

@@ -2,4 +2,3 @@ pub mod Choices
 pub mod Tree
 pub mod Records
 pub mod Answers
-pub mod Finds

@@ -4,13 +4,12 @@
 #![tactic(auto)]
 
 mod climb;
-mod draft;
 mod evaluate;
 mod finder;
 mod levels;
+mod proposal;
 mod search;
 mod solver;
 mod tree;
 
-pub use draft::Draft;
 pub use solver::{Answer, solve, solve_by};

@@ -6,12 +6,12 @@ ghost use Rattle.rst_clause.specs.Solutions.{IsSolution};
 ghost use Rattle.rst_solve.specs.Choices.{choice_of};
 ghost use Rattle.rst_solve.specs.Answers.{Answers, EndsEmptyAlone};
 
-use crate::draft::Draft;
 use crate::evaluate::solves;
-use crate::finder::{Found, find, log_of};
+use crate::finder::{Found, find};
+use crate::proposal::{hints_of, log_of};
 use crate::search::search;
 use crate::tree::Posed;
-use rst_check::refutes;
+use rst_check::{Hints, refutes_by};
 use rst_clause::{Clauses, Log};
 use rst_gate::{Bits, Cube};
 use rst_outside::NoMemory;
@@ -60,15 +60,32 @@ fn refuted(
     clauses: &Clauses,
     left: u32,
     log: Log,
+    hints: &Hints,
 ) -> Result<Option<Answer>, NoMemory>
     requires { EndsEmptyAlone log }
     ensures { IfOk result (λ found. IfSome found (λ a. Answers clauses.now left a)) }
 {
-    if left == 0 || !refutes(alloc, clauses, &log)? {
+    if left == 0 || !refutes_by(alloc, clauses, &log, hints)? {
         return Ok(None);
     }
     let paths = whole(alloc, clauses.free)?;
     Ok(Some(Answer::Refuted { log, paths }))
+}
+
+// The answer of the lines, up to the first that is empty, where they refute.
+fn proposed(
+    alloc: Global,
+    clauses: &Clauses,
+    left: u32,
+    lines: &rst_cdcl::Log,
+) -> Result<Option<Answer>, NoMemory>
+    ensures { IfOk result (λ found. IfSome found (λ a. Answers clauses.now left a)) }
+{
+    let Some(log) = log_of(alloc, lines)? else {
+        return Ok(None);
+    };
+    let hints = hints_of(alloc, clauses, &log, lines)?;
+    refuted(alloc, clauses, left, log, &hints)
 }
 
 // What the finder found, where the checks bear it out.
@@ -83,7 +100,7 @@ fn checked(alloc: Global, clauses: &Clauses, left: u32) -> Result<Option<Answer>
             }
             None => Ok(None),
         },
-        Found::Refuted(log) => refuted(alloc, clauses, left, log),
+        Found::Refuted(lines) => proposed(alloc, clauses, left, &lines),
         Found::Nothing => Ok(None),
     }
 }
@@ -114,21 +131,6 @@ pub fn solve(alloc: Global, clauses: &Clauses, left: u32) -> Result<Answer, NoMe
     search(&q, left)
 }
 
-// The answer of the lines, up to the first that is empty, where they refute.
-fn proposed(
-    alloc: Global,
-    clauses: &Clauses,
-    left: u32,
-    lines: &Draft,
-) -> Result<Option<Answer>, NoMemory>
-    ensures { IfOk result (λ found. IfSome found (λ a. Answers clauses.now left a)) }
-{
-    match log_of(alloc, lines)? {
-        Some(log) => refuted(alloc, clauses, left, log),
-        None => Ok(None),
-    }
-}
-
 /// Answers as `solve` does. First it replays the proposed lines, up to the first that is empty: where
 /// they refute the clauses, they are the log, with one path in which no place is known. Else it
 /// searches.
@@ -136,7 +138,7 @@ pub fn solve_by(
     alloc: Global,
     clauses: &Clauses,
     left: u32,
-    lines: &Draft,
+    lines: &rst_cdcl::Log,
 ) -> Result<Answer, NoMemory>
     ensures { IfOk result (λ a. Answers clauses.now left a) }
 {
