@@ -1,6 +1,7 @@
 -- The lines of a log, one after another.
 use Rattle.std.specs.Prelude.{◌≡◌, ℕ, ◌<◌, ℤ, List, [], ◌++◌, length, slice_index_or, take}
 use Rattle.rst_clause.specs.Propagation.{Follows}
+use Rattle.rst_clause.specs.Queue.{IsFalseAt}
 use Rattle.rst_watch.specs.Propagators.{Propagator', IsSettled}
 
 -- each line follows from the clauses and the earlier lines
@@ -22,3 +23,7 @@ pub record IsBack (old new : Propagator') : Type 0 where
   pub vars : new.trail.vars ≡ old.trail.vars
   pub lits : new.trail.lits ≡ old.trail.lits
   pub settled : IsSettled new
+
+-- one of the clauses is false
+abbrev pub HasFalse : List (List ℤ) → List ℤ → Type 0
+HasFalse clauses t = (i : ℕ) × IsFalseAt clauses t i

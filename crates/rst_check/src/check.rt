@@ -2,9 +2,11 @@ ghost use Rattle.std.specs.Prelude.{◌≡◌, ◌≤◌, ◌<◌, ◌^◌, ◌�
 ghost use Rattle.rst_clause.specs.Literals.{AreLiterals, AreClauses};
 ghost use Rattle.rst_clause.specs.Propagation.{Follows, Closes, AllDerived};
 ghost use Rattle.rst_clause.specs.Passes.{Passes, clauses_of};
+ghost use Rattle.rst_clause.specs.Trails.{Grows};
 ghost use Rattle.rst_watch.specs.Propagators.{IsSettled};
-ghost use Rattle.rst_check.specs.Lines.{EachFollows, IsLonger, IsBack};
+ghost use Rattle.rst_check.specs.Lines.{EachFollows, HasFalse, IsLonger, IsBack};
 
+use crate::hints::Hints;
 use crate::load::load;
 use crate::range::are_in_range;
 use rst_clause::{Clauses, Lit, Log};
@@ -12,9 +14,26 @@ use rst_outside::NoMemory;
 use rst_watch::Propagator;
 use std::alloc::Global;
 
+// Looks at the clauses of these numbers one after another, until one is false. Whether one is.
+fn has_false(p: &mut Propagator, hints: &[u32]) -> Result<bool, NoMemory>
+    ensures grows { OnOk result (Grows p.old.clauses p.old.trail p.new.trail) }
+    ensures is_false { IfOk result (λ yes. yes ≡ true → HasFalse p.old.clauses p.new.trail.lits) }
+    ensures vars { p.new.trail.vars ≡ p.old.trail.vars }
+    ensures clauses { p.new.clauses ≡ p.old.clauses }
+    ensures floors { p.new.floors ≡ p.old.floors }
+{
+    for i in 0..hints.len() {
+        if p.apply(hints[i] as usize)? {
+            return Ok(true);
+        }
+    }
+    Ok(false)
+}
+
 // Whether propagation contradicts the line: what stands is what the clauses imply, the opposites
-// of the line's literals are assumed, and propagation finds a false clause.
-fn contradicts(p: &mut Propagator, line: &[Lit]) -> Result<bool, NoMemory>
+// of the line's literals are assumed, and a clause is false, one of the hints or one that
+// propagation finds.
+fn contradicts(p: &mut Propagator, line: &[Lit], hints: &[u32]) -> Result<bool, NoMemory>
     requires few { p.old.trail.vars < 2 ^ 31 }
     requires in_range { AreLiterals p.old.trail.vars line.now }
     requires implied { AllDerived p.old.clauses p.old.trail.lits }
@@ -31,6 +50,9 @@ fn contradicts(p: &mut Propagator, line: &[Lit]) -> Result<bool, NoMemory>
             p.assume(no)?;
         }
     }
+    if has_false(p, hints)? {
+        return Ok(true);
+    }
     let found = p.propagate()?;
     match found {
         Some(_) => Ok(true),
@@ -40,7 +62,7 @@ fn contradicts(p: &mut Propagator, line: &[Lit]) -> Result<bool, NoMemory>
 
 // Whether the line follows by unit propagation from the clauses, on a level of its own. What
 // stands is what they imply, and it still stands afterwards.
-fn follows(p: &mut Propagator, line: &[Lit]) -> Result<bool, NoMemory>
+fn follows(p: &mut Propagator, line: &[Lit], hints: &[u32]) -> Result<bool, NoMemory>
     requires few { p.old.trail.vars < 2 ^ 31 }
     requires in_range { AreLiterals p.old.trail.vars line.now }
     requires implied { AllDerived p.old.clauses p.old.trail.lits }
@@ -49,7 +71,7 @@ fn follows(p: &mut Propagator, line: &[Lit]) -> Result<bool, NoMemory>
     ensures back { OnOk result (IsBack p.old p.new) }
 {
     p.open()?;
-    let yes = contradicts(p, line)?;
+    let yes = contradicts(p, line, hints)?;
     p.back();
     Ok(yes)
 }
@@ -78,7 +100,7 @@ fn learns(p: &mut Propagator, line: &[Lit]) -> Result<bool, NoMemory>
 
 // Whether each line of the log follows from the clauses and the earlier lines. They are added, and
 // what they imply stands, until a clause is false: then each further line follows.
-fn all_follow(p: &mut Propagator, log: &Log) -> Result<bool, NoMemory>
+fn all_follow(p: &mut Propagator, log: &Log, hints: &Hints) -> Result<bool, NoMemory>
     requires few { p.old.trail.vars < 2 ^ 31 }
     requires in_range { AreClauses p.old.trail.vars log.now }
     requires root { p.old.floors ≡ [] }
@@ -88,7 +110,7 @@ fn all_follow(p: &mut Propagator, log: &Log) -> Result<bool, NoMemory>
 {
     for i in 0..log.len() {
         let line = log.get(i);
-        if !follows(p, line.as_slice())? {
+        if !follows(p, line.as_slice(), hints.get(i))? {
             return Ok(false);
         }
         if learns(p, line.as_slice())? {
@@ -100,7 +122,7 @@ fn all_follow(p: &mut Propagator, log: &Log) -> Result<bool, NoMemory>
 
 // Whether each line of the log follows from the clauses and the earlier lines, where nothing is
 // known yet.
-fn replay(p: &mut Propagator, clauses: &Clauses, log: &Log) -> Result<bool, NoMemory>
+fn replay(p: &mut Propagator, clauses: &Clauses, log: &Log, hints: &Hints) -> Result<bool, NoMemory>
     requires vars { p.old.trail.vars ≡ clauses.now.vars }
     requires few { p.old.trail.vars < 2 ^ 31 }
     requires in_range { AreClauses p.old.trail.vars log.now }
@@ -112,7 +134,7 @@ fn replay(p: &mut Propagator, clauses: &Clauses, log: &Log) -> Result<bool, NoMe
     if load(p, clauses)? {
         return Ok(true);
     }
-    let yes = all_follow(p, log)?;
+    let yes = all_follow(p, log, hints)?;
     Ok(yes)
 }
 
@@ -130,10 +152,25 @@ fn ends_empty(log: &Log) -> bool
 pub fn refutes(alloc: Global, clauses: &Clauses, log: &Log) -> Result<bool, NoMemory>
     ensures { IfOk result (λ yes. IsTrue yes ↔ Passes clauses.now log.now) }
 {
+    let hints = Hints::new(alloc);
+    let yes = refutes_by(alloc, clauses, log, &hints)?;
+    Ok(yes)
+}
+
+/// The same, where the clauses of its hints are looked at first for each line. The answer doesn't
+/// depend on them.
+pub fn refutes_by(
+    alloc: Global,
+    clauses: &Clauses,
+    log: &Log,
+    hints: &Hints,
+) -> Result<bool, NoMemory>
+    ensures { IfOk result (λ yes. IsTrue yes ↔ Passes clauses.now log.now) }
+{
     if !ends_empty(log) || !are_in_range(clauses.vars, log) {
         return Ok(false);
     }
     let mut p = Propagator::new(alloc, clauses.vars)?;
-    let yes = replay(&mut p, clauses, log)?;
+    let yes = replay(&mut p, clauses, log, hints)?;
     Ok(yes)
 }

@@ -2,7 +2,9 @@
 #![tactic(auto)]
 
 mod check;
+mod hints;
 mod load;
 mod range;
 
-pub use check::refutes;
+pub use check::{refutes, refutes_by};
+pub use hints::Hints;

@@ -1,6 +1,7 @@
 //! Unit propagation with two watched literals a clause.
 #![tactic(auto)]
 
+mod apply;
 mod floors;
 mod learn;
 mod levels;

@@ -1,13 +1,14 @@
 // The type that owns clauses, trail and queue.
-ghost use Rattle.std.specs.Prelude.{◌≡◌, ◌↔◌, ◌+◌, ◌<◌, ◌≤◌, ◌^◌, ℕ, ℤ, List, [], ◌∷◌, ◌++◌, length, take, IfOk, IfNone, OnOk, IsTrue, slice_index_or, unsigned_abs};
+ghost use Rattle.std.specs.Prelude.{◌≡◌, ◌↔◌, ◌+◌, ◌<◌, ◌≤◌, ◌^◌, ℕ, ℤ, true, false, List, [], ◌∷◌, ◌++◌, length, take, IfOk, IfNone, OnOk, IsTrue, slice_index_or, unsigned_abs};
 ghost use Rattle.std.specs.List.{Contains};
 ghost use Rattle.rst_clause.specs.Literals.{opposite, AreLiterals};
-ghost use Rattle.rst_clause.specs.Trails.{IsConsistent, pushed};
-ghost use Rattle.rst_clause.specs.Queue.{Propagates};
+ghost use Rattle.rst_clause.specs.Trails.{IsConsistent, IsQuiet, Grows, pushed};
+ghost use Rattle.rst_clause.specs.Queue.{Propagates, IsFalseAt};
 ghost use Rattle.rst_watch.specs.Watching.{IsWatching};
 ghost use Rattle.rst_watch.specs.Choices.{Learns};
 ghost use Rattle.rst_watch.specs.Propagators.{IsSettled};
 
+use crate::apply::apply;
 use crate::learn::learn;
 use crate::levels::{assume, back, open};
 use crate::state::{State, start};
@@ -113,6 +114,19 @@ impl Propagator {
         ensures floors { self.new.floors ≡ self.old.floors }
     {
         propagate_all(&mut self.state)
+    }
+
+    /// Looks at the clause with the number alone, if there is one, and adds what it implies. Whether
+    /// it is false.
+    pub fn apply(&mut self, number: usize) -> Result<bool, NoMemory>
+        ensures grows { Grows self.old.clauses self.old.trail self.new.trail }
+        ensures is_false { IfOk result (λ yes. yes ≡ true → IsFalseAt self.new.clauses self.new.trail.lits number) }
+        ensures quiet { IfOk result (λ yes. yes ≡ false → number < length self.new.clauses → IsQuiet self.new.trail.lits (slice_index_or self.new.clauses number [])) }
+        ensures vars { self.new.trail.vars ≡ self.old.trail.vars }
+        ensures clauses { self.new.clauses ≡ self.old.clauses }
+        ensures floors { self.new.floors ≡ self.old.floors }
+    {
+        apply(&mut self.state, number)
     }
 
     /// Begins a level, where all that stands was propagated.
