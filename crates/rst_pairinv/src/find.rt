@@ -444,6 +444,8 @@ pub(crate) fn round(
     if before < so_far.journal.len() {
         return Ok(None);
     }
-    let lines = finder.kept.lines(alloc, so_far.front.blocked.as_slice())?;
+    let lines = finder
+        .kept
+        .lines(alloc, pair, so_far.front.blocked.as_slice())?;
     turn(alloc, pair, so_far, left, &lines)
 }

@@ -3,9 +3,14 @@
 #![tactic(auto)]
 
 mod block;
+mod draft;
 mod find;
 mod hops;
 mod kept;
+mod lines;
+mod lits;
+mod names;
+mod net;
 mod refining;
 mod states;
 mod turn;

@@ -16,7 +16,7 @@ use rst_gate::Cube;
 use rst_outside::NoMemory;
 use rst_pair::{Entry, Front, Kind, Pair, Query};
 use rst_pose::pose;
-use rst_solve::{Answer, Draft, solve_by};
+use rst_solve::{Answer, solve_by};
 use std::alloc::Global;
 
 // What the search answers to the question, after these lines were tried.
@@ -25,7 +25,7 @@ fn ask(
     pair: &Pair,
     front: &Front,
     left: u32,
-    lines: &Draft,
+    lines: &rst_cdcl::Log,
 ) -> Result<Answer, NoMemory>
     requires { IsWithin pair.now front.now }
     ensures { IfOk result (λ answer. AnswersSplit pair.now front.now left answer) }
@@ -83,7 +83,7 @@ pub(crate) fn turn(
     pair: &Pair,
     so_far: &mut Refining,
     left: u32,
-    lines: &Draft,
+    lines: &rst_cdcl::Log,
 ) -> Result<Option<Log>, NoMemory>
     requires small_left { IsSmall pair.now.left }
     requires small_right { IsSmall pair.now.right }
