@@ -1,6 +1,7 @@
 -- Gate by gate, each choice of the free bits extends in exactly one way, and unit propagation finds it.
-use Rattle.std.proofs.Common.{◌≡◌, ◌≢◌, ◌∙◌, ℕ, zero, suc, ◌+◌, ◌<◌, ◌≤◌, inl, inr, ℤ, pos, negsuc, unsigned_abs, Bool, true, false, not, cond, ◌&&◌, List, [], ◌∷◌, ◌++◌, length, refl, sym, ap, subst, arith, append_assoc, append-nil, add-zero, eqb, eq-eqb}
+use Rattle.std.proofs.Common.{◌≡◌, ◌≢◌, ◌∙◌, ℕ, zero, suc, ◌+◌, ◌<◌, ◌≤◌, ◌⊎◌, inl, inr, ℤ, pos, negsuc, unsigned_abs, Bool, true, false, not, cond, ◌&&◌, List, [], ◌∷◌, ◌++◌, length, refl, sym, ap, subst, arith, append_assoc, append-nil, add-zero, eqb, eq-eqb}
 use Rattle.std.specs.List.{Contains}
+use Rattle.std.specs.Bool.{beq}
 use Rattle.std.specs.Coded.{Coded-set, coded_bool, le_prop}
 use Rattle.std.proofs.Math.Logic.{∥∥₁_elim}
 use Rattle.std.proofs.Math.Nat.{eq-or-lt_of_le}
@@ -10,12 +11,12 @@ use Rattle.rst_value.specs.Bits.{bit_xor, bit_mux}
 use Rattle.rst_clause.specs.Literals.{opposite, literal_holds, Holds, Solves, IsLiteral, AreLiterals, AreClauses}
 use Rattle.rst_clause.specs.Propagation.{Derived, units}
 use Rattle.rst_clause.specs.Propagation.Derived.{unit}
-use Rattle.rst_clause.specs.Operations.{and_clauses, xor_clauses, mux_clauses, Operation, operands, defining, all_defining, AreEarlier, denies_next, IsDefined}
+use Rattle.rst_clause.specs.Operations.{Operation, operands, defining, all_defining, AreEarlier, denies_next, IsDefined}
 use Rattle.rst_clause.specs.Operations.Operation.{and_of, xor_of, mux_of}
 use Rattle.rst_clause.specs.Extension.{AgreeTo, literal_of, choice_literals, HasOneExtension}
-use Rattle.rst_clause.proofs.Members.{Contains-first, Contains-later, Contains-one, Contains-cons_cases, Contains-map, opposite-opposite}
-use Rattle.rst_clause.proofs.Gates.{result_of, Nonzero, gate_made, gate_value, Solves-left, Solves-right}
-use Rattle.rst_clause.proofs.Ranges.{AreClauses-more, defining_in_range, AreClauses-append, denies_in_range}
+use Rattle.rst_clause.proofs.Members.{Contains-first, Contains-one, Contains-map, opposite-opposite, one_of_both}
+use Rattle.rst_clause.proofs.Gates.{all_hold, test-false, result_of, Nonzero, gate_test, gate_made, gate_value, Solves-left, Solves-right}
+use Rattle.rst_clause.proofs.Ranges.{abs-opposite, AreClauses-more, Each, all_each, defining_in_range, AreClauses-append, denies_in_range}
 
 -- each clause is among the others
 abbrev pub AreAmong : List (List ℤ) → List (List ℤ) → Type 0
@@ -28,124 +29,9 @@ derived_more xs ys among l (unit c _ cin lin rest) = unit c l (among c cin) lin 
 pub unit1 : (cs : List (List ℤ)) (l : ℤ) → Contains cs (l ∷ []) → Derived cs l
 unit1 cs l h = unit (l ∷ []) l h (Contains-first l []) (λ k kin ne. absurd (ne (sym (Contains-one l k kin))))
 
-unit2 : (cs : List (List ℤ)) (l x : ℤ) → Contains cs (l ∷ x ∷ []) → Derived cs (opposite x) → Derived cs l
-unit2 cs l x h d = unit (l ∷ x ∷ []) l h (Contains-first l (x ∷ [])) (λ k kin ne. elim (Contains-cons_cases l (x ∷ []) k kin) [
-  | inl e ↦ absurd (ne (sym e))
-  | inr i ↦ subst (λ z. Derived cs (opposite z)) (Contains-one x k i) d
-])
-
-unit3 : (cs : List (List ℤ)) (l x y : ℤ) → Contains cs (l ∷ x ∷ y ∷ []) → Derived cs (opposite x) → Derived cs (opposite y) → Derived cs l
-unit3 cs l x y h d e = unit (l ∷ x ∷ y ∷ []) l h (Contains-first l (x ∷ y ∷ [])) (λ k kin ne. elim (Contains-cons_cases l (x ∷ y ∷ []) k kin) [
-  | inl f ↦ absurd (ne (sym f))
-  | inr i ↦ elim (Contains-cons_cases x (y ∷ []) k i) [
-    | inl f ↦ subst (λ z. Derived cs (opposite z)) f d
-    | inr j ↦ subst (λ z. Derived cs (opposite z)) (Contains-one y k j) e
-  ]
-])
-
-twice : (cs : List (List ℤ)) (k : ℤ) → Derived cs k → Derived cs (opposite (opposite k))
-twice cs k d = subst (λ z. Derived cs z) (sym (opposite-opposite k)) d
-
--- the literal of k's variable that has this value: k where it is true
-abbrev pub valued : Bool → ℤ → ℤ
-valued b k = cond b k (opposite k)
-
--- a gate's result is found from its operands
-and_found : (cs : List (List ℤ)) (n : ℕ) (a b : ℤ) → AreAmong (and_clauses (pos (suc n)) a b) cs → (va vb vz : Bool) → vz ≡ va && vb
-    → Derived cs (valued va a) → Derived cs (valued vb b) → Derived cs (literal_of vz n)
-and_found cs n a b h true true true e da db = unit3 cs (pos (suc n)) (opposite a) (opposite b)
-    (h (pos (suc n) ∷ opposite a ∷ opposite b ∷ []) (2, omega arith, refl)) (twice cs a da) (twice cs b db)
-and_found cs n a b h true true false e da db = (cc)
-and_found cs n a b h true false true e da db = (cc)
-and_found cs n a b h true false false e da db = unit2 cs (negsuc n) b (h (negsuc n ∷ b ∷ []) (1, omega arith, refl)) db
-and_found cs n a b h false vb true e da db = (cc)
-and_found cs n a b h false vb false e da db = unit2 cs (negsuc n) a (h (negsuc n ∷ a ∷ []) (0, omega arith, refl)) da
-
-module _ (cs : List (List ℤ)) (n : ℕ) (a b : ℤ) (h : AreAmong (xor_clauses (pos (suc n)) a b) cs) where
-  xor_1 : Contains cs (negsuc n ∷ a ∷ b ∷ [])
-  xor_1 = h (negsuc n ∷ a ∷ b ∷ []) (0, omega arith, refl)
-
-  xor_2 : Contains cs (negsuc n ∷ opposite a ∷ opposite b ∷ [])
-  xor_2 = h (negsuc n ∷ opposite a ∷ opposite b ∷ []) (1, omega arith, refl)
-
-  xor_3 : Contains cs (pos (suc n) ∷ opposite a ∷ b ∷ [])
-  xor_3 = h (pos (suc n) ∷ opposite a ∷ b ∷ []) (2, omega arith, refl)
-
-  xor_4 : Contains cs (pos (suc n) ∷ a ∷ opposite b ∷ [])
-  xor_4 = h (pos (suc n) ∷ a ∷ opposite b ∷ []) (3, omega arith, refl)
-
-  xor_found : (va vb vz : Bool) → vz ≡ bit_xor va vb → Derived cs (valued va a) → Derived cs (valued vb b) → Derived cs (literal_of vz n)
-  xor_found true true true e da db = (cc)
-  xor_found true true false e da db = unit3 cs (negsuc n) (opposite a) (opposite b) xor_2 (twice cs a da) (twice cs b db)
-  xor_found true false true e da db = unit3 cs (pos (suc n)) (opposite a) b xor_3 (twice cs a da) db
-  xor_found true false false e da db = (cc)
-  xor_found false true true e da db = unit3 cs (pos (suc n)) a (opposite b) xor_4 da (twice cs b db)
-  xor_found false true false e da db = (cc)
-  xor_found false false true e da db = (cc)
-  xor_found false false false e da db = unit3 cs (negsuc n) a b xor_1 da db
-
-module _ (cs : List (List ℤ)) (n : ℕ) (s t e : ℤ) (h : AreAmong (mux_clauses (pos (suc n)) s t e) cs) where
-  mux_1 : Contains cs (negsuc n ∷ opposite s ∷ t ∷ [])
-  mux_1 = h (negsuc n ∷ opposite s ∷ t ∷ []) (0, omega arith, refl)
-
-  mux_2 : Contains cs (pos (suc n) ∷ opposite s ∷ opposite t ∷ [])
-  mux_2 = h (pos (suc n) ∷ opposite s ∷ opposite t ∷ []) (1, omega arith, refl)
-
-  mux_3 : Contains cs (negsuc n ∷ s ∷ e ∷ [])
-  mux_3 = h (negsuc n ∷ s ∷ e ∷ []) (2, omega arith, refl)
-
-  mux_4 : Contains cs (pos (suc n) ∷ s ∷ opposite e ∷ [])
-  mux_4 = h (pos (suc n) ∷ s ∷ opposite e ∷ []) (3, omega arith, refl)
-
-  mux_found : (vs vt ve vz : Bool) → vz ≡ bit_mux vs vt ve → Derived cs (valued vs s) → Derived cs (valued vt t) → Derived cs (valued ve e)
-      → Derived cs (literal_of vz n)
-  mux_found true true ve true p ds dt de = unit3 cs (pos (suc n)) (opposite s) (opposite t) mux_2 (twice cs s ds) (twice cs t dt)
-  mux_found true true ve false p ds dt de = (cc)
-  mux_found true false ve true p ds dt de = (cc)
-  mux_found true false ve false p ds dt de = unit3 cs (negsuc n) (opposite s) t mux_1 (twice cs s ds) dt
-  mux_found false vt true true p ds dt de = unit3 cs (pos (suc n)) s (opposite e) mux_4 ds (twice cs e de)
-  mux_found false vt true false p ds dt de = (cc)
-  mux_found false vt false true p ds dt de = (cc)
-  mux_found false vt false false p ds dt de = unit3 cs (negsuc n) s e mux_3 ds de
-
--- the literals of the operands that hold are found
-abbrev AllFound : List (List ℤ) → (ℕ → Bool) → List ℤ → Type 0
-AllFound cs v [] = Unit {0}
-AllFound cs v (k ∷ ks) = Derived cs (valued (literal_holds v k) k) × AllFound cs v ks
-
-gate_found : (cs : List (List ℤ)) (v : ℕ → Bool) (n : ℕ) (o : Operation) → AreAmong (defining (pos (suc n)) o) cs → v (suc n) ≡ result_of v o
-    → AllFound cs v (operands o) → Derived cs (literal_of (v (suc n)) n)
-gate_found cs v n (and_of a b) h e f = and_found cs n a b h (literal_holds v a) (literal_holds v b) (v (suc n)) e f.0 f.1.0
-gate_found cs v n (xor_of a b) h e f = xor_found cs n a b h (literal_holds v a) (literal_holds v b) (v (suc n)) e f.0 f.1.0
-gate_found cs v n (mux_of s t u) h e f = mux_found cs n s t u h (literal_holds v s) (literal_holds v t) (literal_holds v u) (v (suc n)) e f.0 f.1.0 f.1.1.0
-
--- the literal of k's variable that holds
-valued_is : (v : ℕ → Bool) (k : ℤ) (m : ℕ) → unsigned_abs k ≡ suc m → literal_of (v (suc m)) m ≡ valued (literal_holds v k) k
-valued_is v (pos zero) m e = absurd (omega arith)
-valued_is v (pos (suc j)) m e = let f : m ≡ j = omega arith in ap (λ z. literal_of (v (suc z)) z) f
-valued_is v (negsuc j) m e = let f : m ≡ j = omega arith in ap (λ z. literal_of (v (suc z)) z) f ∙ turned (v (suc j)) j
-  where
-    turned : (b : Bool) (j : ℕ) → literal_of b j ≡ valued (not b) (negsuc j)
-    turned true j = refl
-    turned false j = refl
-
-operand_found : (cs : List (List ℤ)) (v : ℕ → Bool) (n : ℕ) → ((m : ℕ) → m < n → Derived cs (literal_of (v (suc m)) m))
-    → (k : ℤ) → IsLiteral n k → Derived cs (valued (literal_holds v k) k)
-operand_found cs v n d k isl = at (unsigned_abs k) refl
-  where
-    at : (j : ℕ) → unsigned_abs k ≡ j → Derived cs (valued (literal_holds v k) k)
-    at zero e = absurd (omega (arith, isl.0))
-    at (suc m) e = subst (λ z. Derived cs z) (valued_is v k m e) (d m (omega (arith, isl.1)))
-
-all_found : (cs : List (List ℤ)) (v : ℕ → Bool) (n : ℕ) → ((m : ℕ) → m < n → Derived cs (literal_of (v (suc m)) m))
-    → (ks : List ℤ) → ((k : ℤ) → Contains ks k → IsLiteral n k) → AllFound cs v ks
-all_found cs v n d [] h = tt
-all_found cs v n d (k ∷ ks) h =
-    (operand_found cs v n d k (h k (Contains-first k ks)), all_found cs v n d ks (λ j i. h j (Contains-later k ks j i)))
-
-all_nonzero : (n : ℕ) (ks : List ℤ) → ((k : ℤ) → Contains ks k → IsLiteral n k) → Nonzero ks
+pub all_nonzero : (n : ℕ) (ks : List ℤ) → AreLiterals n ks → Nonzero ks
 all_nonzero n [] h = tt
-all_nonzero n (k ∷ ks) h = ((h k (Contains-first k ks)).0, all_nonzero n ks (λ j i. h j (Contains-later k ks j i)))
+all_nonzero n (k ∷ ks) h = ((h 0 k (omega arith)).0, all_nonzero n ks (λ i d lt. h (suc i) d (omega arith)))
 
 -- one value changed
 overridden : (ℕ → Bool) → ℕ → Bool → ℕ → Bool
@@ -171,21 +57,84 @@ solves-agree n v w cs h ok s c cin =
     let isl : IsLiteral n r.0 = All-contains (IsLiteral n) c r.0 (All-contains (AreLiterals n) cs c ok cin) r.1 in
     (r.0, r.1, sym (literal-agree n v w h r.0 isl) ∙ r.2)
 
-result-agree : (n : ℕ) (v w : ℕ → Bool) (o : Operation) → AgreeTo n v w → ((k : ℤ) → Contains (operands o) k → IsLiteral n k) → result_of v o ≡ result_of w o
-result-agree n v w (and_of a b) h ok =
-    let ea = literal-agree n v w h a (ok a (Contains-first a (b ∷ []))) in
-    let eb = literal-agree n v w h b (ok b (Contains-later a (b ∷ []) b (Contains-first b []))) in
-    ap (λ z. z && literal_holds v b) ea ∙ ap (λ z. literal_holds w a && z) eb
-result-agree n v w (xor_of a b) h ok =
-    let ea = literal-agree n v w h a (ok a (Contains-first a (b ∷ []))) in
-    let eb = literal-agree n v w h b (ok b (Contains-later a (b ∷ []) b (Contains-first b []))) in
-    ap (λ z. bit_xor z (literal_holds v b)) ea ∙ ap (λ z. bit_xor (literal_holds w a) z) eb
-result-agree n v w (mux_of s t e) h ok =
-    let es = literal-agree n v w h s (ok s (Contains-first s (t ∷ e ∷ []))) in
-    let et = literal-agree n v w h t (ok t (Contains-later s (t ∷ e ∷ []) t (Contains-first t (e ∷ [])))) in
-    let ee = literal-agree n v w h e (ok e (Contains-later s (t ∷ e ∷ []) e (Contains-later t (e ∷ []) e (Contains-first e [])))) in
-    ap (λ z. bit_mux z (literal_holds v t) (literal_holds v e)) es ∙ ap (λ z. bit_mux (literal_holds w s) z (literal_holds v e)) et
-    ∙ ap (λ z. bit_mux (literal_holds w s) (literal_holds w t) z) ee
+result-agree : (n : ℕ) (v w : ℕ → Bool) (o : Operation) → AgreeTo n v w → AreLiterals n (operands o) → result_of v o ≡ result_of w o
+result-agree n v w o h ok = same o (all_each (IsLiteral n) (operands o) ok)
+  where
+    agree : (k : ℤ) → IsLiteral n k → literal_holds v k ≡ literal_holds w k
+    agree = literal-agree n v w h
+
+    same : (o : Operation) → Each (IsLiteral n) (operands o) → result_of v o ≡ result_of w o
+    same (and_of a b) (la, (lb, _)) = λ i. agree a la i && agree b lb i
+    same (xor_of a b) (la, (lb, _)) = λ i. bit_xor (agree a la i) (agree b lb i)
+    same (mux_of s t e) (ls, (lt, (le, _))) = λ i. bit_mux (agree s ls i) (agree t lt i) (agree e le i)
+
+-- a literal that holds is that of its variable's value
+held_is : (v : ℕ → Bool) (k : ℤ) (m : ℕ) → unsigned_abs k ≡ suc m → literal_holds v k ≡ true → k ≡ literal_of (v (suc m)) m
+held_is v (pos zero) m e t = absurd (omega arith)
+held_is v (pos (suc j)) m e t = let f : j ≡ m = omega arith in
+    subst (λ i. pos (suc j) ≡ literal_of (v (suc i)) i) f (ap (λ b. literal_of b j) (sym t))
+held_is v (negsuc j) m e t = let f : j ≡ m = omega arith in
+    subst (λ i. negsuc j ≡ literal_of (v (suc i)) i) f (turned (v (suc j)) t)
+  where
+    turned : (b : Bool) → not b ≡ true → negsuc j ≡ literal_of b j
+    turned true t = absurd (let f : false ≡ true = t in cc)
+    turned false t = refl
+
+-- Unit propagation finds a gate's result, whatever the gate: with the other value of the result some clause of
+-- the gate is false, and only the result's literal holds in it.
+module _ (cs : List (List ℤ)) (v : ℕ → Bool) (n : ℕ) (o : Operation) (ok : AreLiterals n (operands o)) (before : (m : ℕ) → m < n → Derived cs (literal_of (v (suc m)) m)) where
+  abbrev turned : ℕ → Bool
+  turned = overridden v (suc n) (not (v (suc n)))
+
+  abbrev found_lit : ℤ
+  found_lit = literal_of (v (suc n)) n
+
+  turned-agree : AgreeTo n turned v
+  turned-agree i low high = overridden-other v (suc n) (not (v (suc n))) i (λ e. absurd (omega arith))
+
+  -- a literal that is false with the other value is the result's, or is false and its opposite is found
+  result_or_false : (k : ℤ) → IsLiteral (suc n) k → literal_holds turned k ≡ false
+      → (k ≡ found_lit) ⊎ ((literal_holds v k ≡ false) × Derived cs (opposite k))
+  result_or_false k isl f = elim (eq-or-lt_of_le isl.1) [
+    | inl e ↦ inl (sym (opposite-opposite k) ∙ ap opposite (held_is turned (opposite k) n (abs-opposite k ∙ e) held)
+        ∙ ap (λ b. opposite (literal_of b n)) (overridden-same v (suc n) (not (v (suc n)))) ∙ back (v (suc n)))
+    | inr lt ↦
+        let low : unsigned_abs k ≤ n = omega arith in
+        inr (sym (literal-agree n turned v turned-agree k (isl.0, low)) ∙ f, at (unsigned_abs k) refl lt)
+  ]
+    where
+      held : literal_holds turned (opposite k) ≡ true
+      held = one_of_both turned k isl.0 f
+
+      back : (b : Bool) → opposite (literal_of (not b) n) ≡ literal_of b n
+      back true = refl
+      back false = refl
+
+      at : (j : ℕ) → unsigned_abs k ≡ j → unsigned_abs k < suc n → Derived cs (opposite k)
+      at zero e lt = absurd (omega (arith, isl.0))
+      at (suc m) e lt =
+          let is : opposite k ≡ literal_of (turned (suc m)) m = held_is turned (opposite k) m (abs-opposite k ∙ e) held in
+          subst (λ z. Derived cs z) (sym (is ∙ ap (λ b. literal_of b m) (turned-agree (suc m) (omega arith) (omega arith)))) (before m (omega arith))
+
+  gate_found : AreAmong (defining (pos (suc n)) o) cs → Solves v (defining (pos (suc n)) o) → Derived cs found_lit
+  gate_found among s =
+      let gate = defining (pos (suc n)) o in
+      let value : result_of turned o ≡ v (suc n) = result-agree n turned v o turned-agree ok ∙ sym (gate_value v n o (all_nonzero n (operands o) ok) s) in
+      let fails : all_hold turned gate ≡ false = gate_test turned (pos (suc n)) o (omega arith, all_nonzero n (operands o) ok)
+      ∙ (λ i. beq (overridden-same v (suc n) (not (v (suc n))) i) (value i)) ∙ differs (v (suc n)) in
+      let r : (c : List ℤ) × Contains gate c × ((k : ℤ) → Contains c k → literal_holds turned k ≡ false) = test-false turned gate fails in
+      let either : (k : ℤ) → Contains r.0 k → (k ≡ found_lit) ⊎ ((literal_holds v k ≡ false) × Derived cs (opposite k)) = λ k kin.
+      result_or_false k (All-contains (IsLiteral (suc n)) r.0 k (All-contains (AreLiterals (suc n)) gate r.0 (defining_in_range n o ok) r.1) kin) (r.2 k kin) in
+      let h : Holds v r.0 = s r.0 r.1 in
+      let there : Contains r.0 found_lit = elim (either h.0 h.1) [
+        | inl e ↦ subst (λ z. Contains r.0 z) e h.1
+        | inr d ↦ absurd (let both : true ≡ false = sym h.2 ∙ d.0 in cc)
+      ] in
+      unit r.0 found_lit (among r.0 r.1) there (λ k kin ne. elim (either k kin) [ inl e ↦ absurd (ne e) | inr d ↦ d.1 ])
+    where
+      differs : (b : Bool) → beq (not b) b ≡ false
+      differs true = refl
+      differs false = refl
 
 choice-has : (v : ℕ → Bool) (n k : ℕ) → k < n → Contains (choice_literals v n) (literal_of (v (suc k)) k)
 choice-has v zero k lt = absurd (omega arith)
@@ -205,8 +154,7 @@ pub record Extends (free n : ℕ) (cs : List (List ℤ)) : Type 0 where
 extends_step : (free n : ℕ) (cs : List (List ℤ)) (o : Operation) → AreLiterals n (operands o) → Extends free n cs
     → Extends free (suc n) (cs ++ defining (pos (suc n)) o)
 extends_step free n cs o earlier x =
-    let ok : (k : ℤ) → Contains (operands o) k → IsLiteral n k = λ k kin. All-contains (IsLiteral n) (operands o) k earlier kin in
-    let nonzero : Nonzero (operands o) = all_nonzero n (operands o) ok in
+    let nonzero : Nonzero (operands o) = all_nonzero n (operands o) earlier in
     let gate = defining (pos (suc n)) o in
     let below : free ≤ n = x.below in
     record {
@@ -220,11 +168,11 @@ extends_step free n cs o earlier x =
               v,
               λ i low high. r.1 i low high ∙ same i low (omega arith),
               solves_both v cs gate (solves-agree n r.0 v cs same x.in_range r.2)
-                  (gate_made v n o nonzero (overridden-same r.0 (suc n) (result_of r.0 o) ∙ result-agree n r.0 v o same ok)),
+                  (gate_made v n o nonzero (overridden-same r.0 (suc n) (result_of r.0 o) ∙ result-agree n r.0 v o same earlier)),
             );
         only = λ v w sv sw h.
             let before : AgreeTo n v w = x.one.only v w (Solves-left v cs gate sv) (Solves-left w cs gate sw) h in
-            λ i low high. up_to v w before (gate_value v n o nonzero (Solves-right v cs gate sv) ∙ result-agree n v w o before ok
+            λ i low high. up_to v w before (gate_value v n o nonzero (Solves-right v cs gate sv) ∙ result-agree n v w o before earlier
             ∙ sym (gate_value w n o nonzero (Solves-right w cs gate sw))) i low high;
         found = λ v s.
             let all = units (choice_literals v free) ++ (cs ++ gate) in
@@ -232,8 +180,8 @@ extends_step free n cs o earlier x =
             derived_more (units (choice_literals v free) ++ cs) all (among_more (units (choice_literals v free)) cs gate) (literal_of (v (suc m)) m)
             (x.one.found v (Solves-left v cs gate s) m lt) in
             λ m lt. found_to v all before
-            (gate_found all v n o (λ c h. Contains-append_right (units (choice_literals v free)) (cs ++ gate) c (Contains-append_right cs gate c h))
-            (gate_value v n o nonzero (Solves-right v cs gate s)) (all_found all v n before (operands o) ok)) m lt;
+            (gate_found all v n o earlier before (λ c h. Contains-append_right (units (choice_literals v free)) (cs ++ gate) c (Contains-append_right cs gate c h))
+            (Solves-right v cs gate s)) m lt;
       };
     }
   where

@@ -4,6 +4,7 @@ pub mod Sound
 pub mod Ranges
 pub mod Gates
 pub mod Extending
+pub mod NextGate
 pub mod Marks
 pub mod Scan
 pub mod Noting

@@ -5,9 +5,9 @@ use Rattle.std.specs.Coded.{Coded-set, coded_ℕ}
 use Rattle.std.proofs.Math.Logic.{∥∥₁_elim}
 use Rattle.std.proofs.lemmas.List.Elements.{Contains-get_or, Contains-append_cases, All-contains}
 use Rattle.rst_clause.specs.Literals.{opposite, IsLiteral, AreLiterals, AreClauses}
-use Rattle.rst_clause.specs.Operations.{and_clauses, xor_clauses, mux_clauses, Operation, operands, defining, all_defining, AreEarlier, denies_next, IsDefined}
+use Rattle.rst_clause.specs.Operations.{Operation, operands, defining, all_defining, AreEarlier, denies_next, IsDefined}
 use Rattle.rst_clause.specs.Operations.Operation.{and_of, xor_of, mux_of}
-use Rattle.rst_clause.specs.Results.{largest, false_variable}
+use Rattle.rst_clause.specs.Results.{largest_in, largest, false_variable}
 use Rattle.rst_clause.proofs.Members.{Contains-nil, Contains-cons_cases}
 
 pub All-from_members : {X : Type 0} (P : X → Type 0) (xs : List X) → ((x : X) → Contains xs x → P x) → All P xs
@@ -49,6 +49,11 @@ each_all P xs e = All-from_members P xs (members P xs e)
     members P [] e x h = absurd (Contains-nil x h)
     members P (y ∷ ys) e x h = elim (Contains-cons_cases y ys x h) [ inl f ↦ subst P f e.0 | inr i ↦ members P ys e.1 x i ]
 
+-- and back
+pub all_each : {X : Type 0} (P : X → Type 0) (xs : List X) → All P xs → Each P xs
+all_each P [] h = tt
+all_each P (x ∷ xs) h = (h 0 x (omega arith), all_each P xs (λ i d lt. h (suc i) d (omega arith)))
+
 module _ (n : ℕ) where
   pub lits2 : (a b : ℤ) → IsLiteral n a → IsLiteral n b → AreLiterals n (a ∷ b ∷ [])
   lits2 a b p q = each_all (IsLiteral n) (a ∷ b ∷ []) (p, (q, tt))
@@ -56,57 +61,33 @@ module _ (n : ℕ) where
   pub lits3 : (a b c : ℤ) → IsLiteral n a → IsLiteral n b → IsLiteral n c → AreLiterals n (a ∷ b ∷ c ∷ [])
   lits3 a b c p q r = each_all (IsLiteral n) (a ∷ b ∷ c ∷ []) (p, (q, (r, tt)))
 
-  opp : (k : ℤ) → IsLiteral n k → IsLiteral n (opposite k)
-  opp k isl = IsLiteral-opposite n k isl
-
-literal_more : (n : ℕ) (k : ℤ) → IsLiteral n k → IsLiteral (suc n) k
-literal_more n k isl = let high : unsigned_abs k ≤ n = isl.1 in (isl.0, omega arith)
-
-operands2 : (n : ℕ) (a b : ℤ) → AreLiterals n (a ∷ b ∷ []) → IsLiteral n a × IsLiteral n b
-operands2 n a b ok = (ok 0 a (omega arith), ok 1 a (omega arith))
-
-operands3 : (n : ℕ) (a b c : ℤ) → AreLiterals n (a ∷ b ∷ c ∷ []) → IsLiteral n a × IsLiteral n b × IsLiteral n c
-operands3 n a b c ok = (ok 0 a (omega arith), ok 1 a (omega arith), ok 2 a (omega arith))
+-- the literals of a gate's clauses are its result, its operands, and the opposites of these
+gate_literals : (P : ℤ → Type 0) → ((k : ℤ) → P k → P (opposite k)) → (z : ℤ) (o : Operation) → P z → Each P (operands o) → Each (Each P) (defining z o)
+gate_literals P opp z (and_of a b) pz (pa, (pb, _)) =
+    let nz = opp z pz in ((nz, (pa, tt)), ((nz, (pb, tt)), ((pz, (opp a pa, (opp b pb, tt))), tt)))
+gate_literals P opp z (xor_of a b) pz (pa, (pb, _)) =
+    let nz = opp z pz in
+    let na = opp a pa in
+    let nb = opp b pb in
+    ((nz, (pa, (pb, tt))), ((nz, (na, (nb, tt))), ((pz, (na, (pb, tt))), ((pz, (pa, (nb, tt))), tt))))
+gate_literals P opp z (mux_of s t e) pz (ps, (pt, (pe, _))) =
+    let nz = opp z pz in
+    let ns = opp s ps in
+    ((nz, (ns, (pt, tt))), ((pz, (ns, (opp t pt, tt))), ((nz, (ps, (pe, tt))), ((pz, (ps, (opp e pe, tt))), tt))))
 
 pub defining_in_range : (n : ℕ) (o : Operation) → AreLiterals n (operands o) → AreClauses (suc n) (defining (pos (suc n)) o)
-defining_in_range n (and_of a b) ok =
-    let m = suc n in
-    let r = operands2 n a b ok in
-    let la = literal_more n a r.0 in
-    let lb = literal_more n b r.1 in
-    let z : IsLiteral m (pos (suc n)) = (omega arith, omega arith) in
-    let nz : IsLiteral m (negsuc n) = (omega arith, omega arith) in
-    each_all (AreLiterals m) (and_clauses (pos (suc n)) a b)
-    (lits2 m (negsuc n) a nz la, (lits2 m (negsuc n) b nz lb, (lits3 m (pos (suc n)) (opposite a) (opposite b) z (opp m a la) (opp m b lb), tt)))
-defining_in_range n (xor_of a b) ok =
-    let m = suc n in
-    let r = operands2 n a b ok in
-    let la = literal_more n a r.0 in
-    let lb = literal_more n b r.1 in
-    let z : IsLiteral m (pos (suc n)) = (omega arith, omega arith) in
-    let nz : IsLiteral m (negsuc n) = (omega arith, omega arith) in
-    each_all (AreLiterals m) (xor_clauses (pos (suc n)) a b) (
-      lits3 m (negsuc n) a b nz la lb,
-      (
-        lits3 m (negsuc n) (opposite a) (opposite b) nz (opp m a la) (opp m b lb),
-        (lits3 m (pos (suc n)) (opposite a) b z (opp m a la) lb, (lits3 m (pos (suc n)) a (opposite b) z la (opp m b lb), tt)),
-      ),
-    )
-defining_in_range n (mux_of s t e) ok =
-    let m = suc n in
-    let r = operands3 n s t e ok in
-    let ls = literal_more n s r.0 in
-    let lt = literal_more n t r.1 in
-    let le = literal_more n e r.2 in
-    let z : IsLiteral m (pos (suc n)) = (omega arith, omega arith) in
-    let nz : IsLiteral m (negsuc n) = (omega arith, omega arith) in
-    each_all (AreLiterals m) (mux_clauses (pos (suc n)) s t e) (
-      lits3 m (negsuc n) (opposite s) t nz (opp m s ls) lt,
-      (
-        lits3 m (pos (suc n)) (opposite s) (opposite t) z (opp m s ls) (opp m t lt),
-        (lits3 m (negsuc n) s e nz ls le, (lits3 m (pos (suc n)) s (opposite e) z ls (opp m e le), tt)),
-      ),
-    )
+defining_in_range n o ok =
+    let z : IsLiteral (suc n) (pos (suc n)) = (omega arith, omega arith) in
+    let more : AreLiterals (suc n) (operands o) = AreLiterals-more n (suc n) (operands o) (omega arith) ok in
+    clauses (defining (pos (suc n)) o)
+    (gate_literals (IsLiteral (suc n)) (IsLiteral-opposite (suc n)) (pos (suc n)) o z (all_each (IsLiteral (suc n)) (operands o) more))
+  where
+    each_clause : (cs : List (List ℤ)) → Each (Each (IsLiteral (suc n))) cs → Each (AreLiterals (suc n)) cs
+    each_clause [] e = tt
+    each_clause (c ∷ cs) e = (each_all (IsLiteral (suc n)) c e.0, each_clause cs e.1)
+
+    clauses : (cs : List (List ℤ)) → Each (Each (IsLiteral (suc n))) cs → AreClauses (suc n) cs
+    clauses cs e = each_all (AreLiterals (suc n)) cs (each_clause cs e)
 
 pub denies_in_range : (n : ℕ) → AreClauses (suc n) (denies_next n ∷ [])
 denies_in_range n = each_all (AreLiterals (suc n)) (denies_next n ∷ []) (each_all (IsLiteral (suc n)) (denies_next n) ((omega arith, omega arith), tt), tt)
@@ -116,41 +97,25 @@ pub largest-append : (c m : List (List ℤ)) → largest (c ++ m) ≡ max (large
 largest-append [] m = omega arith
 largest-append (clause ∷ c) m = omega (arith, largest-append c m)
 
-top2 : (z a m : ℕ) → z ≡ m → a ≤ m → max z (max a 0) ≡ m
-top2 z a m e p = omega arith
-
-top3 : (z a b m : ℕ) → z ≡ m → a ≤ m → b ≤ m → max z (max a (max b 0)) ≡ m
-top3 z a b m e p q = omega arith
-
-same3 : (a b c m : ℕ) → a ≡ m → b ≡ m → c ≡ m → max a (max b (max c 0)) ≡ m
-same3 a b c m p q r = omega arith
-
-same4 : (a b c d m : ℕ) → a ≡ m → b ≡ m → c ≡ m → d ≡ m → max a (max b (max c (max d 0))) ≡ m
-same4 a b c d m p q r s = omega arith
-
-below : (n : ℕ) (k : ℤ) → IsLiteral n k → unsigned_abs k ≤ suc n
-below n k isl = let high : unsigned_abs k ≤ n = isl.1 in omega arith
-
-below_opp : (n : ℕ) (k : ℤ) → IsLiteral n k → unsigned_abs (opposite k) ≤ suc n
-below_opp n k isl = subst (λ m. m ≤ suc n) (sym (abs-opposite k)) (below n k isl)
+-- clauses in range have no larger variable
+largest_under : (m : ℕ) (cs : List (List ℤ)) → AreClauses m cs → largest cs ≤ m
+largest_under m [] ok = omega arith
+largest_under m (c ∷ cs) ok = omega (arith, in_clause c (ok 0 c (omega arith)), largest_under m cs (λ i d lt. ok (suc i) d (omega arith)))
+  where
+    in_clause : (c : List ℤ) → AreLiterals m c → largest_in c ≤ m
+    in_clause [] ok = omega arith
+    in_clause (k ∷ ks) ok = omega (arith, (ok 0 k (omega arith)).1, in_clause ks (λ i d lt. ok (suc i) d (omega arith)))
 
 largest-defining : (n : ℕ) (o : Operation) → AreLiterals n (operands o) → largest (defining (pos (suc n)) o) ≡ suc n
-largest-defining n (and_of a b) ok =
-    let r = operands2 n a b ok in
-    same3 _ _ _ (suc n) (top2 (suc n) (unsigned_abs a) (suc n) refl (below n a r.0)) (top2 (suc n) (unsigned_abs b) (suc n) refl (below n b r.1))
-    (top3 (suc n) (unsigned_abs (opposite a)) (unsigned_abs (opposite b)) (suc n) refl (below_opp n a r.0) (below_opp n b r.1))
-largest-defining n (xor_of a b) ok =
-    let r = operands2 n a b ok in
-    same4 _ _ _ _ (suc n) (top3 (suc n) (unsigned_abs a) (unsigned_abs b) (suc n) refl (below n a r.0) (below n b r.1))
-    (top3 (suc n) (unsigned_abs (opposite a)) (unsigned_abs (opposite b)) (suc n) refl (below_opp n a r.0) (below_opp n b r.1))
-    (top3 (suc n) (unsigned_abs (opposite a)) (unsigned_abs b) (suc n) refl (below_opp n a r.0) (below n b r.1))
-    (top3 (suc n) (unsigned_abs a) (unsigned_abs (opposite b)) (suc n) refl (below n a r.0) (below_opp n b r.1))
-largest-defining n (mux_of s t e) ok =
-    let r = operands3 n s t e ok in
-    same4 _ _ _ _ (suc n) (top3 (suc n) (unsigned_abs (opposite s)) (unsigned_abs t) (suc n) refl (below_opp n s r.0) (below n t r.1))
-    (top3 (suc n) (unsigned_abs (opposite s)) (unsigned_abs (opposite t)) (suc n) refl (below_opp n s r.0) (below_opp n t r.1))
-    (top3 (suc n) (unsigned_abs s) (unsigned_abs e) (suc n) refl (below n s r.0) (below n e r.2))
-    (top3 (suc n) (unsigned_abs s) (unsigned_abs (opposite e)) (suc n) refl (below n s r.0) (below_opp n e r.2))
+largest-defining n o ok = omega (arith, begins o, largest_under (suc n) (defining (pos (suc n)) o) (defining_in_range n o ok))
+  where
+    first : (a b c : ℕ) → a ≤ max (max a b) c
+    first a b c = omega arith
+
+    begins : (o : Operation) → suc n ≤ largest (defining (pos (suc n)) o)
+    begins (and_of a b) = first (suc n) _ _
+    begins (xor_of a b) = first (suc n) _ _
+    begins (mux_of s t e) = first (suc n) _ _
 
 largest-all : (n : ℕ) (cs : List (List ℤ)) (os : List Operation) → largest cs ≡ n → AreEarlier n os → largest (cs ++ all_defining n os) ≡ n + length os
 largest-all n cs [] e earlier = ap largest (append-nil cs) ∙ e ∙ sym (add-zero n)

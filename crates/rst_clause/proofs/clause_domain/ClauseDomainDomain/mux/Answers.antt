@@ -1,10 +1,9 @@
-use Rattle.std.proofs.Common.{◌≡◌, ◌∙◌, ◌++◌, ◌+◌, ◌-◌, ◌^◌, ◌≤◌, ap, arith, refl, sym, suc, pos, ℕ, ℤ, List, unsigned_abs}
-use Rattle.rst_clause.specs.Operations.{mux_clauses}
+use Rattle.std.proofs.Common.{◌-◌, ◌^◌, ◌≤◌, arith, refl}
+use Rattle.rst_value.specs.Bits.{bit_mux}
 use Rattle.rst_clause.specs.Operations.Operation.{mux_of}
-use Rattle.rst_clause.specs.Results.{next}
-use Rattle.rst_clause.proofs.Ranges.{lits3, largest_of}
-use Rattle.rst_clause.proofs.Gates.{mux_stands, stands_more}
-use Rattle.rst_clause.proofs.Extending.{both_equal}
+use Rattle.rst_clause.proofs.Ranges.{lits3}
+use Rattle.rst_clause.proofs.Gates.{stands_more}
+use Rattle.rst_clause.proofs.NextGate.{gate_behind, gate_gives, gate_law}
 use Rattle.rst_clause.proofs.clause_domain.ClauseDomainDomain.mux.Goals as goal
 
 pub of_variable-z-requires-clause-fits : goal.of_variable-z-requires-clause-fits
@@ -12,23 +11,19 @@ of_variable-z-requires-clause-fits c = let room : 1 ≤ 2 ^ 31 - 1 - c.args.self
 
 pub define-requires-clause-next : goal.define-requires-clause-next
 define-requires-clause-next c =
-    let one : c.args.self.now.clauses.vars + 1 ≡ suc c.args.self.now.clauses.vars = omega arith in
-    let z : c.of_variable-z.result ≡ pos (suc c.args.self.now.clauses.vars) = c.of_variable-z.ensures ∙ ap pos one in
-    (mux_of c.args.select c.args.one c.args.zero, lits3 c.args.self.now.clauses.vars c.args.select c.args.one c.args.zero c.requires.held_select c.requires.held_one c.requires.held_zero, c.in_ok-gate.ensures ∙ ap (λ (k : ℤ). mux_clauses k c.args.select c.args.one c.args.zero) z)
+    gate_behind c.args.self.now.clauses.vars c.args.self.now.clauses.fixed c.in_ok-gate.gate c.of_variable-z.result (mux_of c.args.select c.args.one c.args.zero) c.of_variable-z.ensures c.in_ok-gate.ensures
+    (lits3 c.args.self.now.clauses.vars c.args.select c.args.one c.args.zero c.requires.held_select c.requires.held_one c.requires.held_zero)
 
 pub returns-clause-law : goal.returns-clause-law
 returns-clause-law c world w x y ss st se choice begins s =
-    let all = c.in_ok-define.ensures.ok ∙ ap (λ (m : List (List ℤ)). c.args.self.now.clauses.fixed ++ m) c.in_ok-gate.ensures in
-    let z : 1 ≤ unsigned_abs c.of_variable-z.result = rw c.of_variable-z.ensures (omega arith) in
-    mux_stands c.args.self.now.clauses.free c.args.self.now.clauses.fixed c.of_variable-z.result c.args.select c.args.one c.args.zero world w x y
-    z c.requires.held_select.0 c.requires.held_one.0 c.requires.held_zero.0 ss st se choice (rw (← c.in_ok-define.ensures.free) begins) (rw (← all) s)
+    gate_law c.args.self.now.clauses.vars c.args.self.now.clauses.fixed c.in_ok-gate.gate c.of_variable-z.result (mux_of c.args.select c.args.one c.args.zero) c.of_variable-z.ensures c.in_ok-gate.ensures
+    c.args.self.now.clauses.free _ c.in_ok-define.ensures.ok (lits3 c.args.self.now.clauses.vars c.args.select c.args.one c.args.zero c.requires.held_select c.requires.held_one c.requires.held_zero)
+    world (bit_mux w x y) (λ v b s i. bit_mux (ss v b s i) (st v b s i) (se v b s i)) choice (rw (← c.in_ok-define.ensures.free) begins) s
 
 pub returns-clause-gives : goal.returns-clause-gives
 returns-clause-gives c =
-    let all = c.in_ok-define.ensures.ok ∙ ap (λ (m : List (List ℤ)). c.args.self.now.clauses.fixed ++ m) c.in_ok-gate.ensures in
-    let largest = largest_of c.args.self.now.clauses.free c.args.self.now.clauses.vars c.args.self.now.clauses.fixed c.args.self.now.clauses.defined in
-    let is : next c.args.self.now.clauses.fixed ≡ c.of_variable-z.result = ap (λ (n : ℕ). pos (n + 1)) largest ∙ sym c.of_variable-z.ensures in
-    both_equal _ _ _ _ is (ap (λ (k : ℤ). c.args.self.now.clauses.fixed ++ mux_clauses k c.args.select c.args.one c.args.zero) is ∙ sym all)
+    gate_gives c.args.self.now.clauses.vars c.args.self.now.clauses.fixed c.in_ok-gate.gate c.of_variable-z.result (mux_of c.args.select c.args.one c.args.zero) c.of_variable-z.ensures c.in_ok-gate.ensures
+    c.args.self.now.clauses.free _ c.in_ok-define.ensures.ok c.args.self.now.clauses.defined
 
 pub returns-clause-keeps_bits : goal.returns-clause-keeps_bits
 returns-clause-keeps_bits c world v bit h choice begins s =
