@@ -1,12 +1,11 @@
 -- Disjoint paths are at most as many as the choices of the free bits.
-use Rattle.std.proofs.Common.{◌≡◌, ◌≢◌, ℕ, zero, suc, ◌+◌, ◌-◌, ◌*◌, ◌^◌, ◌<◌, ◌≤◌, ℤ, pos, negsuc, Bool, true, false, not, List, [], ◌∷◌, length, map, get_or, refl, sym, ◌∙◌, subst, ap, arith, inl, inr, add-zero}
+use Rattle.std.proofs.Common.{◌≡◌, ℕ, zero, suc, ◌+◌, ◌-◌, ◌*◌, ◌^◌, ◌<◌, ◌≤◌, ℤ, pos, negsuc, Bool, true, false, not, List, [], ◌∷◌, length, map, get_or, refl, sym, ◌∙◌, subst, ap, arith, inl, inr, add-zero}
 use Rattle.std.specs.List.{Contains}
 use Rattle.std.proofs.Math.Nat.{pow-suc}
-use Rattle.std.proofs.lemmas.List.Elements.{Contains-get_or}
 use Rattle.rst_value.specs.declared.tern.Tern.{Tern}
 use Rattle.rst_value.specs.declared.tern.Tern.TheVariants.{Zero, One, Unknown}
 use Rattle.rst_clause.specs.Literals.{literal_holds}
-use Rattle.rst_clause.specs.Paths.{literals_from, path_literals, LiesIn, AreDisjoint, AreApart, AreWide}
+use Rattle.rst_clause.specs.Paths.{literals_from, AreDisjoint, AreApart, AreWide}
 use Rattle.rst_clause.proofs.Members.{Contains-nil, Contains-later, Contains-cons_cases, Contains-from_map}
 
 -- no list stands twice
