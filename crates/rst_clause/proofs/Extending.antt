@@ -71,66 +71,70 @@ result-agree n v w o h ok = same o (all_each (IsLiteral n) (operands o) ok)
 -- a literal that holds is that of its variable's value
 held_is : (v : ℕ → Bool) (k : ℤ) (m : ℕ) → unsigned_abs k ≡ suc m → literal_holds v k ≡ true → k ≡ literal_of (v (suc m)) m
 held_is v (pos zero) m e t = absurd (omega arith)
-held_is v (pos (suc j)) m e t = let f : j ≡ m = omega arith in
+held_is v (pos (suc j)) m e t =
+    let f : j ≡ m = omega arith in
     subst (λ i. pos (suc j) ≡ literal_of (v (suc i)) i) f (ap (λ b. literal_of b j) (sym t))
-held_is v (negsuc j) m e t = let f : j ≡ m = omega arith in
-    subst (λ i. negsuc j ≡ literal_of (v (suc i)) i) f (turned (v (suc j)) t)
+held_is v (negsuc j) m e t =
+    let f : j ≡ m = omega arith in
+    subst (λ i. negsuc j ≡ literal_of (v (suc i)) i) f (denied (v (suc j)) t)
   where
-    turned : (b : Bool) → not b ≡ true → negsuc j ≡ literal_of b j
-    turned true t = absurd (let f : false ≡ true = t in cc)
-    turned false t = refl
+    denied : (b : Bool) → not b ≡ true → negsuc j ≡ literal_of b j
+    denied true t = absurd (let f : false ≡ true = t in cc)
+    denied false t = refl
 
--- Unit propagation finds a gate's result, whatever the gate: with the other value of the result some clause of
--- the gate is false, and only the result's literal holds in it.
+-- Unit propagation finds the result of any gate: under the other value some clause of the gate is false, and of
+-- its literals only the result's holds.
 module _ (cs : List (List ℤ)) (v : ℕ → Bool) (n : ℕ) (o : Operation) (ok : AreLiterals n (operands o)) (before : (m : ℕ) → m < n → Derived cs (literal_of (v (suc m)) m)) where
-  abbrev turned : ℕ → Bool
-  turned = overridden v (suc n) (not (v (suc n)))
+  -- the literal of the result's value
+  abbrev found : ℤ
+  found = literal_of (v (suc n)) n
 
-  abbrev found_lit : ℤ
-  found_lit = literal_of (v (suc n)) n
+  -- the choice with the other value
+  abbrev other : ℕ → Bool
+  other = overridden v (suc n) (not (v (suc n)))
 
-  turned-agree : AgreeTo n turned v
-  turned-agree i low high = overridden-other v (suc n) (not (v (suc n))) i (λ e. absurd (omega arith))
+  other_is : other (suc n) ≡ not (v (suc n))
+  other_is = overridden-same v (suc n) (not (v (suc n)))
 
-  -- a literal that is false with the other value is the result's, or is false and its opposite is found
-  result_or_false : (k : ℤ) → IsLiteral (suc n) k → literal_holds turned k ≡ false
-      → (k ≡ found_lit) ⊎ ((literal_holds v k ≡ false) × Derived cs (opposite k))
+  other-agree : AgreeTo n other v
+  other-agree i low high = overridden-other v (suc n) (not (v (suc n))) i (λ e. absurd (omega arith))
+
+  -- a literal that is false under the other value is the result's, or it is false and its opposite is found
+  result_or_false : (k : ℤ) → IsLiteral (suc n) k → literal_holds other k ≡ false → (k ≡ found) ⊎ ((literal_holds v k ≡ false) × Derived cs (opposite k))
   result_or_false k isl f = elim (eq-or-lt_of_le isl.1) [
-    | inl e ↦ inl (sym (opposite-opposite k) ∙ ap opposite (held_is turned (opposite k) n (abs-opposite k ∙ e) held)
-        ∙ ap (λ b. opposite (literal_of b n)) (overridden-same v (suc n) (not (v (suc n)))) ∙ back (v (suc n)))
+    | inl e ↦ inl (sym (opposite-opposite k) ∙ ap opposite (opposite_is n e ∙ ap (λ b. literal_of b n) other_is) ∙ back (v (suc n)))
     | inr lt ↦
         let low : unsigned_abs k ≤ n = omega arith in
-        inr (sym (literal-agree n turned v turned-agree k (isl.0, low)) ∙ f, at (unsigned_abs k) refl lt)
+        inr (sym (literal-agree n other v other-agree k (isl.0, low)) ∙ f, at (unsigned_abs k) refl low)
   ]
     where
-      held : literal_holds turned (opposite k) ≡ true
-      held = one_of_both turned k isl.0 f
+      opposite_is : (m : ℕ) → unsigned_abs k ≡ suc m → opposite k ≡ literal_of (other (suc m)) m
+      opposite_is m e = held_is other (opposite k) m (abs-opposite k ∙ e) (one_of_both other k isl.0 f)
 
       back : (b : Bool) → opposite (literal_of (not b) n) ≡ literal_of b n
       back true = refl
       back false = refl
 
-      at : (j : ℕ) → unsigned_abs k ≡ j → unsigned_abs k < suc n → Derived cs (opposite k)
-      at zero e lt = absurd (omega (arith, isl.0))
-      at (suc m) e lt =
-          let is : opposite k ≡ literal_of (turned (suc m)) m = held_is turned (opposite k) m (abs-opposite k ∙ e) held in
-          subst (λ z. Derived cs z) (sym (is ∙ ap (λ b. literal_of b m) (turned-agree (suc m) (omega arith) (omega arith)))) (before m (omega arith))
+      at : (j : ℕ) → unsigned_abs k ≡ j → unsigned_abs k ≤ n → Derived cs (opposite k)
+      at zero e low = absurd (omega (arith, isl.0))
+      at (suc m) e low = subst (λ z. Derived cs z) (sym (opposite_is m e ∙ ap (λ b. literal_of b m) (other-agree (suc m) (omega arith) (omega arith)))) (before m (omega arith))
 
-  gate_found : AreAmong (defining (pos (suc n)) o) cs → Solves v (defining (pos (suc n)) o) → Derived cs found_lit
+  gate_found : AreAmong (defining (pos (suc n)) o) cs → Solves v (defining (pos (suc n)) o) → Derived cs found
   gate_found among s =
       let gate = defining (pos (suc n)) o in
-      let value : result_of turned o ≡ v (suc n) = result-agree n turned v o turned-agree ok ∙ sym (gate_value v n o (all_nonzero n (operands o) ok) s) in
-      let fails : all_hold turned gate ≡ false = gate_test turned (pos (suc n)) o (omega arith, all_nonzero n (operands o) ok)
-      ∙ (λ i. beq (overridden-same v (suc n) (not (v (suc n))) i) (value i)) ∙ differs (v (suc n)) in
-      let r : (c : List ℤ) × Contains gate c × ((k : ℤ) → Contains c k → literal_holds turned k ≡ false) = test-false turned gate fails in
-      let either : (k : ℤ) → Contains r.0 k → (k ≡ found_lit) ⊎ ((literal_holds v k ≡ false) × Derived cs (opposite k)) = λ k kin.
-      result_or_false k (All-contains (IsLiteral (suc n)) r.0 k (All-contains (AreLiterals (suc n)) gate r.0 (defining_in_range n o ok) r.1) kin) (r.2 k kin) in
+      let nonzero : Nonzero (operands o) = all_nonzero n (operands o) ok in
+      let value : result_of other o ≡ v (suc n) = result-agree n other v o other-agree ok ∙ sym (gate_value v n o nonzero s) in
+      let fails : all_hold other gate ≡ false = gate_test other (pos (suc n)) o (omega arith, nonzero) ∙ (λ i. beq (other_is i) (value i)) ∙ differs (v (suc n)) in
+      let r : (c : List ℤ) × Contains gate c × ((k : ℤ) → Contains c k → literal_holds other k ≡ false) = test-false other gate fails in
+      let in_range : AreLiterals (suc n) r.0 = All-contains (AreLiterals (suc n)) gate r.0 (defining_in_range n o ok) r.1 in
+      let either : (k : ℤ) → Contains r.0 k → (k ≡ found) ⊎ ((literal_holds v k ≡ false) × Derived cs (opposite k)) = λ k kin.
+      result_or_false k (All-contains (IsLiteral (suc n)) r.0 k in_range kin) (r.2 k kin) in
       let h : Holds v r.0 = s r.0 r.1 in
-      let there : Contains r.0 found_lit = elim (either h.0 h.1) [
+      let there : Contains r.0 found = elim (either h.0 h.1) [
         | inl e ↦ subst (λ z. Contains r.0 z) e h.1
         | inr d ↦ absurd (let both : true ≡ false = sym h.2 ∙ d.0 in cc)
       ] in
-      unit r.0 found_lit (among r.0 r.1) there (λ k kin ne. elim (either k kin) [ inl e ↦ absurd (ne e) | inr d ↦ d.1 ])
+      unit r.0 found (among r.0 r.1) there (λ k kin ne. elim (either k kin) [ inl e ↦ absurd (ne e) | inr d ↦ d.1 ])
     where
       differs : (b : Bool) → beq (not b) b ≡ false
       differs true = refl
