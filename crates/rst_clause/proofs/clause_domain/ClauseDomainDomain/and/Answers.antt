@@ -10,19 +10,18 @@ of_variable-z-requires-clause-fits c = let room : 1 ≤ 2 ^ 31 - 1 - c.args.self
 
 pub define-requires-clause-next : goal.define-requires-clause-next
 define-requires-clause-next c =
-    gate_behind c.args.self.now.clauses.vars c.args.self.now.clauses.fixed c.in_ok-gate.gate c.of_variable-z.result (and_of c.args.a c.args.b) c.of_variable-z.ensures c.in_ok-gate.ensures
+    gate_behind (and_of c.args.a c.args.b) _ _ _ c.of_variable-z.ensures c.in_ok-gate.ensures
     (lits2 c.args.self.now.clauses.vars c.args.a c.args.b c.requires.held_a c.requires.held_b)
 
 pub returns-clause-law : goal.returns-clause-law
 returns-clause-law c world x y sa sb choice begins s =
-    gate_law c.args.self.now.clauses.vars c.args.self.now.clauses.fixed c.in_ok-gate.gate c.of_variable-z.result (and_of c.args.a c.args.b) c.of_variable-z.ensures c.in_ok-gate.ensures
-    c.args.self.now.clauses.free _ c.in_ok-define.ensures.ok (lits2 c.args.self.now.clauses.vars c.args.a c.args.b c.requires.held_a c.requires.held_b)
+    gate_law (and_of c.args.a c.args.b) _ _ _ c.of_variable-z.ensures c.in_ok-gate.ensures
+    c.args.self.now.clauses.free _ _ c.in_ok-define.ensures.ok (lits2 c.args.self.now.clauses.vars c.args.a c.args.b c.requires.held_a c.requires.held_b)
     world (x && y) (λ v b s i. sa v b s i && sb v b s i) choice (rw (← c.in_ok-define.ensures.free) begins) s
 
 pub returns-clause-gives : goal.returns-clause-gives
 returns-clause-gives c =
-    gate_gives c.args.self.now.clauses.vars c.args.self.now.clauses.fixed c.in_ok-gate.gate c.of_variable-z.result (and_of c.args.a c.args.b) c.of_variable-z.ensures c.in_ok-gate.ensures
-    c.args.self.now.clauses.free _ c.in_ok-define.ensures.ok c.args.self.now.clauses.defined
+    gate_gives (and_of c.args.a c.args.b) _ _ _ c.of_variable-z.ensures c.in_ok-gate.ensures _ _ _ c.in_ok-define.ensures.ok c.args.self.now.clauses.defined
 
 pub returns-clause-keeps_bits : goal.returns-clause-keeps_bits
 returns-clause-keeps_bits c world v bit h choice begins s =

@@ -11,19 +11,18 @@ of_variable-z-requires-clause-fits c = let room : 1 ≤ 2 ^ 31 - 1 - c.args.self
 
 pub define-requires-clause-next : goal.define-requires-clause-next
 define-requires-clause-next c =
-    gate_behind c.args.self.now.clauses.vars c.args.self.now.clauses.fixed c.in_ok-gate.gate c.of_variable-z.result (mux_of c.args.select c.args.one c.args.zero) c.of_variable-z.ensures c.in_ok-gate.ensures
+    gate_behind (mux_of c.args.select c.args.one c.args.zero) _ _ _ c.of_variable-z.ensures c.in_ok-gate.ensures
     (lits3 c.args.self.now.clauses.vars c.args.select c.args.one c.args.zero c.requires.held_select c.requires.held_one c.requires.held_zero)
 
 pub returns-clause-law : goal.returns-clause-law
 returns-clause-law c world w x y ss st se choice begins s =
-    gate_law c.args.self.now.clauses.vars c.args.self.now.clauses.fixed c.in_ok-gate.gate c.of_variable-z.result (mux_of c.args.select c.args.one c.args.zero) c.of_variable-z.ensures c.in_ok-gate.ensures
-    c.args.self.now.clauses.free _ c.in_ok-define.ensures.ok (lits3 c.args.self.now.clauses.vars c.args.select c.args.one c.args.zero c.requires.held_select c.requires.held_one c.requires.held_zero)
+    gate_law (mux_of c.args.select c.args.one c.args.zero) _ _ _ c.of_variable-z.ensures c.in_ok-gate.ensures
+    c.args.self.now.clauses.free _ _ c.in_ok-define.ensures.ok (lits3 c.args.self.now.clauses.vars c.args.select c.args.one c.args.zero c.requires.held_select c.requires.held_one c.requires.held_zero)
     world (bit_mux w x y) (λ v b s i. bit_mux (ss v b s i) (st v b s i) (se v b s i)) choice (rw (← c.in_ok-define.ensures.free) begins) s
 
 pub returns-clause-gives : goal.returns-clause-gives
 returns-clause-gives c =
-    gate_gives c.args.self.now.clauses.vars c.args.self.now.clauses.fixed c.in_ok-gate.gate c.of_variable-z.result (mux_of c.args.select c.args.one c.args.zero) c.of_variable-z.ensures c.in_ok-gate.ensures
-    c.args.self.now.clauses.free _ c.in_ok-define.ensures.ok c.args.self.now.clauses.defined
+    gate_gives (mux_of c.args.select c.args.one c.args.zero) _ _ _ c.of_variable-z.ensures c.in_ok-gate.ensures _ _ _ c.in_ok-define.ensures.ok c.args.self.now.clauses.defined
 
 pub returns-clause-keeps_bits : goal.returns-clause-keeps_bits
 returns-clause-keeps_bits c world v bit h choice begins s =
