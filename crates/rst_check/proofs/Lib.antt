@@ -1,2 +1,3 @@
+pub mod HintSteps
 pub mod LineSteps
 pub mod Replays

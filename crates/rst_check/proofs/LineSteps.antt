@@ -6,12 +6,15 @@ use Rattle.std.proofs.lemmas.List.Elements.{Contains-get_or, Contains-push, Cont
 use Rattle.rst_clause.specs.Literals.{opposite}
 use Rattle.rst_clause.specs.Propagation.{Derived, units_against, Follows, AllDerived}
 use Rattle.rst_clause.specs.Propagation.Derived.{unit}
+use Rattle.rst_clause.specs.Trails.Grows.{same}
+use Rattle.rst_clause.specs.Queue.{IsFalseAt}
 use Rattle.rst_clause.specs.Trails.{Trail', pushed, Grows, IsComplete, IsQuiet, IsConsistent, AllFalse}
 use Rattle.rst_clause.proofs.Members.{Contains-nil, Contains-first, Contains-one, Contains-map, Contains-from_map, opposite-opposite}
 use Rattle.rst_clause.proofs.Extending.{derived_more}
+use Rattle.rst_clause.proofs.Queueing.{Grows-join}
 use Rattle.rst_clause.proofs.Grown.{grown_derived, false_closes, complete_open, Continues, continues_more, continues_take, grown_continues, continues_has}
 use Rattle.rst_watch.specs.Propagators.{Propagator', IsSettled}
-use Rattle.rst_check.specs.Lines.{IsLonger, IsBack}
+use Rattle.rst_check.specs.Lines.{HasFalse, IsGrown, IsLonger, IsBack}
 
 -- the trail continues the old one by the opposites of these literals, and all that stands is implied by the
 -- clauses with the line's literals false
@@ -143,3 +146,36 @@ module _ (cs : List (List ℤ)) (old : Trail') (line : List ℤ) (i : ℕ) (l : 
       | inr e ↦ subst (λ z. Derived (units_against line ++ cs) z) e (against_derived cs line l line_has)
     ];
   }
+
+-- more stands, and more again
+pub grown_more : (a b c : Propagator') → IsGrown a b → Grows b.clauses b.trail c.trail → c.trail.vars ≡ b.trail.vars → c.clauses ≡ b.clauses → c.floors ≡ b.floors
+    → IsGrown a c
+grown_more a b c g step v e f = record {
+  clauses = e ∙ g.clauses;
+  floors = f ∙ g.floors;
+  vars = v ∙ g.vars;
+  grows = Grows-join a.clauses a.trail b.trail c.trail g.grows (subst (λ z. Grows z b.trail c.trail) g.clauses step);
+}
+
+-- the clauses of some hints were looked at
+pub assuming_grown : (old : Propagator') (done line : List ℤ) (p n : Propagator') → Assuming old done line p → IsGrown p n → Assuming old done line n
+assuming_grown old done line p n a g =
+    let step : Grows old.clauses p.trail n.trail = subst (λ z. Grows z p.trail n.trail) a.clauses g.grows in
+    record {
+      clauses = g.clauses ∙ a.clauses;
+      floors = g.floors ∙ a.floors;
+      assumed = record {
+        vars = g.vars ∙ a.assumed.vars;
+        continues = grown_continues old.clauses old.trail.lits p.trail n.trail step a.assumed.continues;
+        against = λ k h. grown_has old.clauses p.trail n.trail step (opposite k) (a.assumed.against k h);
+        derived = grown_derived old.clauses (units_against line ++ old.clauses) p.trail n.trail
+            (λ c h. Contains-append_right (units_against line) old.clauses c h) step a.assumed.derived;
+      };
+    }
+
+-- and one of them is false
+pub hinted_follows : (old : Propagator') (done line : List ℤ) (p n : Propagator') → Assuming old done line p → IsGrown p n → HasFalse p.clauses n.trail.lits
+    → Follows old.clauses line
+hinted_follows old done line p n a g f =
+    let at : IsFalseAt old.clauses n.trail.lits f.0 = subst (λ (z : List (List ℤ)). IsFalseAt z n.trail.lits f.0) a.clauses f.1 in
+    found_follows old.clauses old.trail done line n.trail n.trail f.0 (assuming_grown old done line p n a g).assumed same at.0 at.1

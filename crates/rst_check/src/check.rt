@@ -2,9 +2,8 @@ ghost use Rattle.std.specs.Prelude.{◌≡◌, ◌≤◌, ◌<◌, ◌^◌, ◌�
 ghost use Rattle.rst_clause.specs.Literals.{AreLiterals, AreClauses};
 ghost use Rattle.rst_clause.specs.Propagation.{Follows, Closes, AllDerived};
 ghost use Rattle.rst_clause.specs.Passes.{Passes, clauses_of};
-ghost use Rattle.rst_clause.specs.Trails.{Grows};
 ghost use Rattle.rst_watch.specs.Propagators.{IsSettled};
-ghost use Rattle.rst_check.specs.Lines.{EachFollows, HasFalse, IsLonger, IsBack};
+ghost use Rattle.rst_check.specs.Lines.{EachFollows, HasFalse, IsGrown, IsLonger, IsBack};
 
 use crate::hints::Hints;
 use crate::load::load;
@@ -16,11 +15,8 @@ use std::alloc::Global;
 
 // Looks at the clauses of these numbers one after another, until one is false. Whether one is.
 fn has_false(p: &mut Propagator, hints: &[u32]) -> Result<bool, NoMemory>
-    ensures grows { OnOk result (Grows p.old.clauses p.old.trail p.new.trail) }
+    ensures grown { IsGrown p.old p.new }
     ensures is_false { IfOk result (λ yes. yes ≡ true → HasFalse p.old.clauses p.new.trail.lits) }
-    ensures vars { p.new.trail.vars ≡ p.old.trail.vars }
-    ensures clauses { p.new.clauses ≡ p.old.clauses }
-    ensures floors { p.new.floors ≡ p.old.floors }
 {
     for i in 0..hints.len() {
         if p.apply(hints[i] as usize)? {

@@ -1,5 +1,6 @@
 // Hints for the replay of a log.
-ghost use Rattle.std.specs.Prelude.{◌≡◌, [], ◌∷◌, ◌++◌, length, OnOk, OnErr};
+ghost use Rattle.std.specs.Prelude.{◌≡◌, ◌≤◌, [], ◌∷◌, ◌++◌, length, OnOk, OnErr};
+ghost use Rattle.rst_clause.specs.Parts.{begin_of};
 ghost use Rattle.rst_check.specs.Hints.{AreRising, numbers_at};
 
 use rst_outside::NoMemory;
@@ -28,6 +29,14 @@ impl Model for Hints {
     ghost invariant = { λ h. AreRising h.numbers.items h.ends.items };
 }
 
+// Where the numbers of the line begin.
+fn start_of(ends: &[usize], line: usize) -> usize
+    requires { line ≤ length ends.now }
+    ensures { result ≡ begin_of 0 ends.now line }
+{
+    if line == 0 { 0 } else { ends[line - 1] }
+}
+
 // The numbers of the line.
 fn numbers_at<'a>(numbers: &'a [u32], ends: &[usize], line: usize) -> &'a [u32]
     requires { AreRising numbers.now ends.now }
@@ -37,7 +46,7 @@ fn numbers_at<'a>(numbers: &'a [u32], ends: &[usize], line: usize) -> &'a [u32]
         let (none, _) = numbers.split_at(0);
         return none;
     }
-    let from = if line == 0 { 0 } else { ends[line - 1] };
+    let from = start_of(ends, line);
     let (front, _) = numbers.split_at(ends[line]);
     let (_, part) = front.split_at(from);
     part

@@ -1,4 +1,4 @@
-use Rattle.rst_check.proofs.check.refutes.Goals as goal
+use Rattle.rst_check.proofs.check.refutes_by.Goals as goal
 
 pub returns : goal.returns
 returns c = (
