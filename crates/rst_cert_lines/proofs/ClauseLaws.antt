@@ -14,23 +14,23 @@ use Rattle.rst_cert_lines.proofs.WordLaws.{after_takes, after_again}
 use Rattle.rst_cert_lines.proofs.NumberLaws.{literal_takes, literal_again}
 
 -- what the text of an option of a literal is: of none, the 0 that ends a clause
-abbrev one_text : Option ℤ → List ℕ
+abbrev pub one_text : Option ℤ → List ℕ
 one_text None = codes "0"
 one_text (Some literal) = literal_text literal
 
-abbrev IsOne : Option ℤ → Type 0
+abbrev pub IsOne : Option ℤ → Type 0
 IsOne None = Unit {0}
 IsOne (Some literal) = IsLiteral literal
 
 -- the rest behind a clause's end is empty
-abbrev IsLast : Option ℤ → List ℕ → Type 0
+abbrev pub IsLast : Option ℤ → List ℕ → Type 0
 IsLast None rest = rest ≡ []
 IsLast (Some literal) rest = Unit {0}
 
-record TakesOne (text : List ℕ) (it : Option ℤ × List ℕ) : Type 0 where
-  parts : text ≡ one_text it.0 ++ it.1
-  fits : IsOne it.0
-  last : IsLast it.0 it.1
+pub record TakesOne (text : List ℕ) (it : Option ℤ × List ℕ) : Type 0 where
+  pub parts : text ≡ one_text it.0 ++ it.1
+  pub fits : IsOne it.0
+  pub last : IsLast it.0 it.1
 
 abbrev more_at : List ℕ → Read (Option ℤ)
 more_at text = literal_at text >>= λ literal. after (codes " ") literal.1 >>= λ space. Some (Some literal.0, space.1)
@@ -53,7 +53,8 @@ one_takes_by true text it is e =
     subst (TakesOne text) (the_some (None, []) it e) (record { parts = same; fits = tt; last = refl })
 one_takes_by false text it is e = more_takes text it e
 
-one_takes : (text : List ℕ) (it : Option ℤ × List ℕ) → one_at text ≡ Some it → TakesOne text it
+-- what was read off is a literal with its space, or the end
+pub one_takes : (text : List ℕ) (it : Option ℤ × List ℕ) → one_at text ≡ Some it → TakesOne text it
 unfolding one_at
 one_takes text it e = one_takes_by (bytes_eq text (codes "0")) text it refl e
 
@@ -117,7 +118,8 @@ literal_has_digits : (literal : ℤ) → IsLiteral literal → 0 < length (signe
 literal_has_digits (pos n) h = let small : n < 2 ^ 64 = omega (arith, h.1) in (decimal_is_IsNumeral n small).0.0
 literal_has_digits (negsuc n) h = omega arith
 
-one_again : (literal : ℤ) (rest : List ℕ) → IsLiteral literal → one_at (literal_text literal ++ rest) ≡ Some (Some literal, rest)
+-- a literal with its space is read off
+pub one_again : (literal : ℤ) (rest : List ℕ) → IsLiteral literal → one_at (literal_text literal ++ rest) ≡ Some (Some literal, rest)
 unfolding one_at
 one_again literal rest h =
     let text = literal_text literal ++ rest in
@@ -132,7 +134,7 @@ one_again literal rest h =
     ∙ bind_go (after (codes " ") (32 ∷ rest)) (λ (space : Unit {0} × List ℕ). Some (Some literal, space.1)) (tt, rest) (after_again (codes " ") rest)
     )
 
-end_again : one_at (codes "0") ≡ Some (None, [])
+pub end_again : one_at (codes "0") ≡ Some (None, [])
 unfolding one_at
 end_again = refl
 

@@ -124,3 +124,12 @@ literal_again (negsuc n) rest fits ends =
     ap (λ (sign : Read (Unit {0})). signed_by sign (45 ∷ decimal (suc n) ++ rest)) (after_again (45 ∷ []) (decimal (suc n) ++ rest))
     ∙ bind_go (number_at (decimal (suc n) ++ rest)) negative_in (suc n, rest) (number_again (suc n) rest small ends)
     ∙ rw (lt-ltb 0 (suc n) some, le-leb (suc n) (2 ^ 31) most) (ap (λ (k : ℕ). Some (negsuc k, rest)) back)
+
+-- a literal has no space
+pub literal_word : (literal : ℤ) (rest : List ℕ) → IsLiteral literal → word_of (signed_decimal literal ++ 32 ∷ rest) ≡ signed_decimal literal
+literal_word (pos n) rest fits =
+    let small : n < 2 ^ 64 = omega (arith, fits.1) in
+    digits_word (decimal n) (32 ∷ rest) (decimal_is_IsNumeral n small).0.1 refl
+literal_word (negsuc n) rest fits =
+    let small : suc n < 2 ^ 64 = omega (arith, fits) in
+    ap (λ (bs : List ℕ). 45 ∷ bs) (digits_word (decimal (suc n)) (32 ∷ rest) (decimal_is_IsNumeral (suc n) small).0.1 refl)

@@ -5,4 +5,6 @@ pub mod Headers
 pub mod Found
 pub mod Lengths
 pub mod Short
+pub mod Clauses
+pub mod LongLines
 pub mod Keeping

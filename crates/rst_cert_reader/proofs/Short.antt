@@ -18,7 +18,8 @@ use Rattle.rst_cert_reader.specs.declared.stage.Stage.TheVariants.{Head, Begin, 
 use Rattle.rst_cert_reader.specs.Headings.{whole, number_in, version_of, version_in, kind_in, with_line}
 use Rattle.rst_cert_reader.specs.Sections.{free_where, shape_of, before_of, place_of, with_entry, with_free_step, with_step, with_word, with_blocked, with_freed, with_work, with_item, with_equal, with_a, with_b, begun_by, is_long_log}
 use Rattle.rst_cert_reader.specs.Readings.{with_head, with_begun, with_more, bad_line, endless, taken}
-use Rattle.rst_cert_reader.specs.Keeping.{is_log, is_small, is_short, behind_fault}
+use Rattle.rst_cert_reader.specs.Kept.{behind_fault}
+use Rattle.rst_cert_reader.specs.Keeping.{is_log, is_small, is_short}
 use Rattle.rst_cert_reader.proofs.Adding.{free_some}
 use Rattle.rst_cert_reader.proofs.Headers.{kind_word, kind_is}
 use Rattle.rst_cert_reader.proofs.Lengths.{IsSmall, number_short, state_short, step_short, free_step_short, hop_short, entry_short}
@@ -28,14 +29,14 @@ not_true true e f = cc
 not_true false e f = cc
 
 -- nothing is read that isn't short
-none_of : {A : Type 0} (option : Option A) (line : List ℕ) → 4096 ≤ length line → ((a : A) → option ≡ Some a → length line < 4096) → option ≡ None
+pub none_of : {A : Type 0} (option : Option A) (line : List ℕ) → 4096 ≤ length line → ((a : A) → option ≡ Some a → length line < 4096) → option ≡ None
 none_of None line long short = refl
 none_of (Some a) line long short = let less = short a refl in absurd (omega (arith, long, less))
 
-none_mapped : {A B : Type 0} (f : A → B) (option : Option A) → option ≡ None → option_map f option ≡ None
+pub none_mapped : {A B : Type 0} (f : A → B) (option : Option A) → option ≡ None → option_map f option ≡ None
 none_mapped f option e = ap (option_map f) e
 
-no_number : (word : List ℕ) (most : ℕ) (line : List ℕ) → length word ≤ 20 → most < 2 ^ 64 → 4096 ≤ length line → number_in word most line ≡ None
+pub no_number : (word : List ℕ) (most : ℕ) (line : List ℕ) → length word ≤ 20 → most < 2 ^ 64 → 4096 ≤ length line → number_in word most line ≡ None
 no_number word most line short few long = none_of (number_in word most line) line long (λ number e. number_short word most line number short few e)
 
 no_version : (line : List ℕ) → 4096 ≤ length line → version_in line ≡ None

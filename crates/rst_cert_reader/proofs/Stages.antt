@@ -1,5 +1,5 @@
 -- What is due is no fault.
-use Rattle.std.proofs.Common.{◌≡◌, ◌==◌, ℕ, Bool, true, false, List, refl, if◌then◌else◌}
+use Rattle.std.proofs.Common.{◌≡◌, ◌==◌, ℕ, ℤ, Bool, true, false, List, refl, if◌then◌else◌}
 use Rattle.rst_cert_reader.specs.declared.heading.HeadLine.{HeadLine}
 use Rattle.rst_cert_reader.specs.declared.heading.HeadLine.TheVariants.{Version, Form, Clock, Registers, Inputs, Outputs, Kind}
 use Rattle.rst_cert_reader.specs.declared.heading.CertKind.{CertKind}
@@ -11,6 +11,7 @@ use Rattle.rst_cert_reader.specs.declared.section.Section.TheVariants.{FreeSteps
 use Rattle.rst_cert_reader.specs.declared.stage.Stage.{Stage}
 use Rattle.rst_cert_reader.specs.declared.stage.Stage.TheVariants.{Head, Begin, Items, Endless, End, Closed, BadHead, Bad}
 use Rattle.rst_cert_reader.specs.Readings.{Reading, stage_behind, stage_behind_head, stage_with, told, taken}
+use Rattle.rst_cert_reader.specs.Kept.{name_taken, clause_read}
 use Rattle.rst_cert_reader.specs.Keeping.{is_short}
 
 -- whatever is due, but no fault
@@ -141,3 +142,31 @@ short_told heading gathered End = refl
 short_told heading gathered Closed = refl
 short_told heading gathered BadHead = refl
 short_told heading gathered (Bad first) = refl
+
+pub name_told : (heading : Heading) (gathered : Gathered) (stage : Stage) (number : ℕ) (name : List ℕ)
+    → name_taken (told heading gathered stage).heading (told heading gathered stage).gathered (told heading gathered stage).stage number name ≡ name_taken heading gathered stage number name
+name_told heading gathered (Head Version) number name = refl
+name_told heading gathered (Head Form) number name = refl
+name_told heading gathered (Head Clock) number name = refl
+name_told heading gathered (Head Registers) number name = refl
+name_told heading gathered (Head Inputs) number name = refl
+name_told heading gathered (Head Outputs) number name = refl
+name_told heading gathered (Head Kind) number name = refl
+name_told heading gathered (Begin section) number name = refl
+name_told heading gathered (Items section left) number name = refl
+name_told heading gathered Endless number name = refl
+name_told heading gathered End number name = refl
+name_told heading gathered Closed number name = refl
+name_told heading gathered BadHead number name = refl
+name_told heading gathered (Bad first) number name = refl
+
+pub literals_told : (heading : Heading) (gathered : Gathered) (stage : Stage) (number : ℕ) (clause : List ℤ)
+    → clause_read (told heading gathered stage).heading (told heading gathered stage).gathered (told heading gathered stage).stage number clause ≡ clause_read heading gathered stage number clause
+literals_told heading gathered (Head due) number clause = refl
+literals_told heading gathered (Begin section) number clause = refl
+literals_told heading gathered (Items section left) number clause = refl
+literals_told heading gathered Endless number clause = refl
+literals_told heading gathered End number clause = refl
+literals_told heading gathered Closed number clause = refl
+literals_told heading gathered BadHead number clause = refl
+literals_told heading gathered (Bad first) number clause = refl

@@ -5,6 +5,7 @@ ghost use Rattle.rst_cert_lines.specs.Readers.{step_at, free_step_at, state_at, 
 ghost use Rattle.rst_cert_reader.specs.Headings.{Gives, Becomes, whole, number_in};
 ghost use Rattle.rst_cert_reader.specs.Readings.{nothing};
 ghost use Rattle.rst_cert_reader.specs.Sections.{is_known, free_where, before_of, marked_behind, blocked_behind, freed_behind, shape_of, place_of, with_entry, with_free_step, with_step, with_word, with_blocked, with_freed, with_first, with_second, with_work, with_item, with_equal, with_a, with_b, begun_by, BeginsAs, is_clause, is_digit, is_long_number, is_long_behind, is_long_log};
+ghost use Rattle.rst_cert_reader.specs.Kept.{with_clause};
 ghost use Rattle.rst_cert_lines.specs.Reading.{after};
 
 use crate::heading::{Heading, read_number};
@@ -197,7 +198,8 @@ pub(crate) fn is_clause(alloc: Global, line: &[u8]) -> Result<bool, NoMemory>
     }
 }
 
-fn is_digit(digit: u8) -> bool
+/// Whether the byte is a decimal digit.
+pub(crate) fn is_digit(digit: u8) -> bool
     ensures { result ≡ is_digit digit }
 {
     48 <= digit && digit <= 57
@@ -361,6 +363,21 @@ impl Gathered {
     {
         let clause = whole_clause(alloc, line)?;
         self.second.push(clause)?;
+        Ok(())
+    }
+
+    /// Keeps one more clause of a log.
+    pub(crate) fn keep_clause(&mut self, section: Section, clause: Clause) -> Result<(), LineFault>
+        ensures { Becomes (with_clause section self.old clause) result self.new }
+    {
+        match section {
+            Section::SplitLog | Section::EscapeLog => self.first.push(clause)?,
+            Section::LandLog | Section::StuckLog => self.second.push(clause)?,
+            _ => {
+                drop(clause);
+                return Err(LineFault::Wrong);
+            }
+        }
         Ok(())
     }
 

@@ -1,6 +1,7 @@
 // The header of a certificate.
-ghost use Rattle.std.specs.Prelude.{◌≡◌, ◌≤◌, IfOk};
-ghost use Rattle.rst_cert_reader.specs.Headings.{Gives, Becomes, no_heading, with_line, number_in, version_in, clock_in, kind_in};
+ghost use Rattle.std.specs.Prelude.{◌≡◌, ◌≤◌, Some, IfOk};
+ghost use Rattle.rst_cert_reader.specs.Headings.{Gives, Becomes, no_heading, with_line, number_in, version_in, name_behind, clock_in, kind_in};
+ghost use Rattle.rst_cert_reader.specs.Kept.{with_name};
 
 use rst_cert_lines::{Cursor, LineFault, counted};
 use rst_lex::is_name;
@@ -71,6 +72,17 @@ fn read_version(line: &[u8]) -> Result<u64, LineFault>
     }
 }
 
+// A clock of this name.
+fn named_clock(alloc: Global, name: &[u8]) -> Result<Option<Name>, LineFault>
+    ensures { Gives (name_behind (Some (tt, name.now))) result }
+{
+    if is_name(name) {
+        Ok(Some(Name::new(alloc, name)?))
+    } else {
+        Err(LineFault::Wrong)
+    }
+}
+
 // The clock's name, if there is one.
 #[tactic(auto, unfolding(crate::specs::Headings::clock_in))]
 fn read_clock(alloc: Global, line: &[u8]) -> Result<Option<Name>, LineFault>
@@ -81,12 +93,7 @@ fn read_clock(alloc: Global, line: &[u8]) -> Result<Option<Name>, LineFault>
     }
     let mut cursor = Cursor::new(line);
     cursor.after(b"clock ")?;
-    let name = cursor.rest();
-    if is_name(name) {
-        Ok(Some(Name::new(alloc, name)?))
-    } else {
-        Err(LineFault::Wrong)
-    }
+    named_clock(alloc, cursor.rest())
 }
 
 #[tactic(auto, unfolding(crate::specs::Headings::kind_in))]
@@ -124,6 +131,14 @@ impl Heading {
             outputs: 0,
             kind: CertKind::Known,
         }
+    }
+
+    /// Reads the clock's line, by the name.
+    pub(crate) fn read_name(&mut self, alloc: Global, name: &[u8]) -> Result<(), LineFault>
+        ensures { Becomes (with_name self.old name.now) result self.new }
+    {
+        self.clock = named_clock(alloc, name)?;
+        Ok(())
     }
 
     /// Reads a line.

@@ -4,13 +4,15 @@ ghost use Rattle.rst_cert_reader.specs.declared.gathered.Gathered.{Gathered};
 ghost use Rattle.rst_cert_reader.specs.Headings.{with_line};
 ghost use Rattle.rst_cert_reader.specs.Sections.{with_item, begun_by, is_clause, is_long_log};
 ghost use Rattle.rst_cert_reader.specs.Readings.{first_section, stage_behind, stage_behind_head, stage_with, told, with_head, with_begun, with_more, taken, endless, bad_line};
-ghost use Rattle.rst_cert_reader.specs.Keeping.{is_log, is_small, is_short, behind_fault};
+ghost use Rattle.rst_cert_reader.specs.Kept.{behind_fault, name_taken, with_clause, clause_read};
+ghost use Rattle.rst_cert_reader.specs.Keeping.{is_log, is_small, is_short};
 ghost use Rattle.rst_cert_reader.specs.declared.heading.Heading.{Heading};
 
 use crate::gathered::{Gathered, is_clause, is_long_log};
 use crate::heading::{CertKind, HeadLine, Heading};
 use crate::section::Section;
 use rst_cert_lines::LineFault;
+use rst_clause::Clause;
 use rst_outside::NoMemory;
 use std::alloc::Global;
 
@@ -210,6 +212,69 @@ fn take_clause(alloc: Global, number: u32, line: &[u8]) -> Result<Stage, NoMemor
     }
 }
 
+/// Reads the clock's line, by the name, and answers what is due behind it.
+pub(crate) fn take_name(
+    alloc: Global,
+    heading: &mut Heading,
+    stage: Stage,
+    number: u32,
+    name: &[u8],
+) -> Result<Stage, NoMemory>
+    ensures { IfOk result (λ next. (gathered : Gathered) → told heading.new gathered next ≡ name_taken heading.old gathered stage number name.now) }
+{
+    if !matches!(stage, Stage::Head(HeadLine::Clock)) {
+        return Ok(stage_behind_fault(stage, number));
+    }
+    match heading.read_name(alloc, name) {
+        Ok(()) => Ok(Stage::Head(HeadLine::Registers)),
+        Err(LineFault::Wrong) => Ok(Stage::BadHead),
+        Err(LineFault::NoMemory) => Err(NoMemory),
+    }
+}
+
+#[tactic(auto, using(crate::proofs::Stages::told_with))]
+fn take_of_log(
+    heading: &Heading,
+    gathered: &mut Gathered,
+    section: Section,
+    left: u64,
+    number: u32,
+    clause: Clause,
+) -> Result<Stage, NoMemory>
+    ensures { IfOk result (λ next. told heading.now gathered.new next ≡ with_more heading.now section left number (with_clause section gathered.old clause)) }
+{
+    match gathered.keep_clause(section, clause) {
+        Ok(()) => Ok(stage_with(heading.kind, section, left.saturating_sub(1))),
+        Err(LineFault::Wrong) => Ok(Stage::Bad(number)),
+        Err(LineFault::NoMemory) => Err(NoMemory),
+    }
+}
+
+/// Takes the clause of the line of this number, and answers what is due behind it.
+pub(crate) fn take_literals(
+    heading: &Heading,
+    gathered: &mut Gathered,
+    stage: Stage,
+    number: u32,
+    clause: Clause,
+) -> Result<Stage, NoMemory>
+    ensures { IfOk result (λ next. told heading.now gathered.new next ≡ clause_read heading.now gathered.old stage number clause) }
+{
+    match stage {
+        Stage::Items(section, left) => take_of_log(
+            heading, gathered, section, left, number, clause,
+        ),
+        Stage::Endless => {
+            drop(clause);
+            Ok(Stage::Endless)
+        }
+        _ => {
+            drop(clause);
+            Ok(stage_behind_fault(stage, number))
+        }
+    }
+}
+
 /// Reads the line of this number, and answers what is due behind it.
 pub(crate) fn take(
     alloc: Global,
@@ -234,7 +299,8 @@ pub(crate) fn take(
     }
 }
 
-fn is_log(section: Section) -> bool
+/// Whether the section is a log.
+pub(crate) fn is_log(section: Section) -> bool
     ensures { result ≡ is_log section }
 {
     match section {
