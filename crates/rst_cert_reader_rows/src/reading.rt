@@ -65,15 +65,25 @@ pub(crate) fn reads_back(alloc: Global, text: &[u8], size: usize) -> Result<bool
     }
 }
 
-// The fault of a text, if it has one.
-pub(crate) fn fault_of(alloc: Global, text: &[u8]) -> Option<CertFault> {
-    match read_cert(alloc, text) {
+// The fault that was found, if one was.
+fn fault_in(read: Result<Cert, CertFault>) -> Option<CertFault> {
+    match read {
         Ok(cert) => {
             drop(cert);
             None
         }
         Err(fault) => Some(fault),
     }
+}
+
+// The fault of a text, if it has one.
+pub(crate) fn fault_of(alloc: Global, text: &[u8]) -> Option<CertFault> {
+    fault_in(read_cert(alloc, text))
+}
+
+// The fault of a text that comes in pieces of so many bytes, if it has one.
+pub(crate) fn fault_in_pieces(alloc: Global, text: &[u8], size: usize) -> Option<CertFault> {
+    fault_in(read_in_pieces(alloc, text, size))
 }
 
 #[test]
