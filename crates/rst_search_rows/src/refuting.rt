@@ -1,6 +1,6 @@
 // Logs over two free bits of which both the exclusive or and the conjunction are required, or the
 // first alone, worked by hand. The variable 4 is the exclusive or, 5 the conjunction.
-use rst_check::refutes;
+use rst_check::{Hints, refutes, refutes_by};
 use rst_clause::{Clause, ClauseDomain, Clauses, Lit, Log};
 use rst_outside::NoMemory;
 use rst_query_text::read;
@@ -79,7 +79,19 @@ fn log_of_lines(alloc: Global, lines: &[[i32; 2]]) -> Result<Log, NoMemory> {
     Ok(log)
 }
 
-// All four clauses of the two free bits, one of them with a literal twice.
+// Hints of a log's first line.
+fn hints_of(alloc: Global, numbers: &[u32]) -> Result<Hints, NoMemory> {
+    let mut hints = Hints::new(alloc);
+    for number in numbers {
+        hints.push(*number)?;
+    }
+    hints.end()?;
+    Ok(hints)
+}
+
+// All four clauses of the two free bits, one of them with a literal twice. Clause 0 is the constant's,
+// and the lines come behind clause 4. Hints change no answer: in order, turned, of clauses that say
+// nothing, of the line itself and of none.
 #[test]
 fn lines_with_opposites_and_repeats(rt: HostRuntime) -> Result<(), Fail> {
     let alloc = rt.alloc();
@@ -98,6 +110,11 @@ fn lines_with_opposites_and_repeats(rt: HostRuntime) -> Result<(), Fail> {
     for (i, (lines, want)) in rows.iter().enumerate() {
         let log = log_of_lines(alloc, lines)?;
         assert_eq!(rt; refutes(alloc, &clauses, &log)?, *want, "row {i}");
+        for numbers in &[[1, 2], [2, 1], [0, 4], [5, 6], [7, 4_294_967_295]] {
+            let hints = hints_of(alloc, numbers)?;
+            let yes = refutes_by(alloc, &clauses, &log, &hints)?;
+            assert_eq!(rt; yes, *want, "row {i}, hints {numbers:?}");
+        }
     }
     Ok(())
 }
