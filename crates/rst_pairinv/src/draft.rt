@@ -1,7 +1,7 @@
 // The lines of a log, and the clauses that each is derived from, as they are put together. They
 // promise nothing.
 
-use crate::lits::{not, number, numbers_of};
+use crate::lits::{narrow, not, number, numbers_of};
 use crate::net::Three;
 use rst_cdcl::{Hint, Log};
 use rst_gate::Gate;
@@ -28,12 +28,7 @@ impl Draft {
 
     /// How many lines there are.
     pub(crate) fn len(&self) -> u32 {
-        let count = self.log.len();
-        if count < 0xFFFF_FFFF {
-            count as u32
-        } else {
-            0xFFFF_FFFF
-        }
+        narrow(self.log.len())
     }
 
     /// The next line is derived from this clause, behind those before.

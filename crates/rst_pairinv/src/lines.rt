@@ -3,7 +3,7 @@
 // lines that say what the solver took for granted come first.
 
 use crate::draft::Draft;
-use crate::lits::{joined, lit_at, lit_of, lits_of, not, of_number, of_variable, said};
+use crate::lits::{joined, lit_at, lit_of, lits_of, narrow, not, of_number, of_variable, said};
 use crate::names::Names;
 use crate::net::{Three, clauses_of};
 use rst_cdcl::{Hint, Log};
@@ -60,7 +60,7 @@ fn chains(alloc: Global, names: &mut Names, hops: &[Hop]) -> Result<Vec<u32>, No
 
 // The literal of a chain behind so many others.
 fn link(start: u32, place: usize) -> u32 {
-    of_variable(start.saturating_add(place as u32).saturating_add(1))
+    of_variable(start.saturating_add(narrow(place)).saturating_add(1))
 }
 
 // The clauses of the right side's gates by the names of what the solver has, and that gates which it

@@ -12,6 +12,15 @@ pub(crate) fn not(lit: u32) -> u32 {
     if lit % 2 == 0 { lit + 1 } else { lit - 1 }
 }
 
+/// A number as 32 bits, or the greatest of those where it does not fit.
+pub(crate) fn narrow(number: usize) -> u32 {
+    if number < 0xFFFF_FFFF {
+        number as u32
+    } else {
+        0xFFFF_FFFF
+    }
+}
+
 /// The literal of a variable.
 pub(crate) fn of_variable(variable: u32) -> u32 {
     variable.saturating_mul(2)
