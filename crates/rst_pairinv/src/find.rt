@@ -20,7 +20,7 @@ use rst_value::Tern;
 use std::alloc::Global;
 
 // How many pairs are drawn at once, and of how many of them a case makes it worth to draw more.
-const DRAWS: u32 = 1024;
+const DRAWS: u32 = 4096;
 
 const WORTH: usize = 64;
 
