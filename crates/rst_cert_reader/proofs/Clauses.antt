@@ -1,5 +1,5 @@
 -- A clause that is read literal by literal.
-use Rattle.std.proofs.Common.{◌≡◌, ◌==◌, ◌+◌, ◌≤◌, ◌<◌, ◌^◌, ℕ, ℤ, pos, negsuc, zero, suc, Bool, true, false, cond, bytes_eq, Option, None, Some, option_map, is_some, List, [], ◌∷◌, ◌++◌, length, drop, codes, refl, sym, ap, subst, ◌∙◌, arith, append_assoc, append-nil, length-append}
+use Rattle.std.proofs.Common.{◌≡◌, ◌==◌, ◌≤◌, ◌<◌, ◌^◌, ℕ, ℤ, pos, negsuc, zero, suc, Bool, true, false, cond, bytes_eq, Option, None, Some, option_map, is_some, List, [], ◌∷◌, ◌++◌, length, drop, codes, refl, sym, ap, ◌∙◌, arith, append_assoc, append-nil, length-append}
 use Rattle.std.specs.Fmt.{signed_decimal}
 use Rattle.std.proofs.lemmas.Fmt.{length-decimal-le}
 use Rattle.std.proofs.lemmas.Slice.Eq.{bytes_eq-Decides}
@@ -7,16 +7,15 @@ use Rattle.rst_certificate.specs.Words.{literal_text}
 use Rattle.rst_cert_lines.specs.Reading.{Read, ◌>>=◌, after, word_of, literal_at, one_at, literals_with, literals_behind}
 use Rattle.rst_cert_lines.specs.Readers.{clause_at}
 use Rattle.rst_cert_lines.specs.Fits.{IsLiteral}
-use Rattle.rst_cert_lines.proofs.Binds.{the_some, no_some, bind_go}
-use Rattle.rst_cert_lines.proofs.WordLaws.{after_takes, after_again}
+use Rattle.rst_cert_lines.proofs.Binds.{no_some, bind_go}
+use Rattle.rst_cert_lines.proofs.WordLaws.{after_again}
 use Rattle.rst_cert_lines.proofs.NumberLaws.{literal_takes, literal_again, literal_word}
 use Rattle.rst_cert_lines.proofs.ClauseLaws.{TakesOne, one_takes, one_again, end_again}
 use Rattle.rst_cert_reader.specs.declared.heading.Heading.{Heading}
 use Rattle.rst_cert_reader.specs.declared.gathered.Gathered.{Gathered}
 use Rattle.rst_cert_reader.specs.declared.section.Section.{Section}
 use Rattle.rst_cert_reader.specs.declared.section.Section.TheVariants.{FreeSteps, Steps, Word, Equal, StateA, StateB, Blocked, Freed, SplitLog, LandLog, EscapeLog, StuckLog, Journal}
-use Rattle.rst_cert_reader.specs.declared.stage.Stage.{Stage}
-use Rattle.rst_cert_reader.specs.declared.stage.Stage.TheVariants.{Head, Begin, Items, Endless, End, Closed, BadHead, Bad}
+use Rattle.rst_cert_reader.specs.declared.stage.Stage.TheVariants.{Items, Endless}
 use Rattle.rst_cert_reader.specs.Headings.{whole}
 use Rattle.rst_cert_reader.specs.Sections.{with_first, with_second, is_clause}
 use Rattle.rst_cert_reader.specs.Readings.{Reading, endless, bad_line, with_more, taken}

@@ -1,6 +1,5 @@
 -- A line that is no clause, no clock and no first line of a log has fewer than 4,096 bytes, where there are at most 512 registers and 256 inputs.
-use Rattle.std.proofs.Common.{◌≡◌, ◌==◌, ◌+◌, ◌-◌, ◌≤◌, ◌<◌, ◌^◌, min, ℕ, Bool, true, false, ◌&&◌, nat_le, Option, None, Some, List, [], ◌∷◌, ◌++◌, length, map, codes, refl, sym, ap, subst, ◌∙◌, arith, append-nil, length-append}
-use Rattle.std.proofs.Math.Nat.{min-le_right}
+use Rattle.std.proofs.Common.{◌≡◌, ◌+◌, ◌≤◌, ◌<◌, ◌^◌, ℕ, Bool, true, false, nat_le, Option, None, Some, List, [], ◌∷◌, ◌++◌, length, codes, sym, ap, subst, ◌∙◌, arith, append-nil, length-append}
 use Rattle.std.specs.Fmt.{decimal}
 use Rattle.std.proofs.lemmas.Fmt.{length-decimal-le}
 use Rattle.std.proofs.lemmas.List.{length-map}
@@ -17,7 +16,7 @@ use Rattle.rst_cert_lines.specs.declared.lines.Shape.{Shape}
 use Rattle.rst_cert_lines.specs.declared.lines.Place.{Place}
 use Rattle.rst_cert_lines.specs.Fits.{IsEarlier, HopFits, EntryFits}
 use Rattle.rst_cert_lines.specs.Readers.{step_at, free_step_at, state_at, hop_line_at, entry_at, least_places, more_places, fits_query}
-use Rattle.rst_cert_lines.proofs.Binds.{the_some, no_some, both_true}
+use Rattle.rst_cert_lines.proofs.Binds.{both_true}
 use Rattle.rst_cert_lines.proofs.LineLaws.{step_takes, free_step_takes, state_text, state_takes}
 use Rattle.rst_cert_lines.proofs.HopLaws.{hop_line_takes}
 use Rattle.rst_cert_lines.proofs.EntryLaws.{entry_takes}

@@ -3,6 +3,7 @@ pub mod Written
 pub mod Adding
 pub mod Headers
 pub mod Found
+pub mod Limits
 pub mod Lengths
 pub mod Short
 pub mod Clauses

@@ -1,14 +1,13 @@
 -- What is kept of long lines tells what they are.
-use Rattle.std.proofs.Common.{◌≡◌, ◌==◌, ◌+◌, ◌-◌, ◌≤◌, ◌<◌, ◌^◌, ℕ, Bool, true, false, ◌&&◌, ◌||◌, not, cond, nat_le, bytes_eq, Option, None, Some, option_map, List, [], ◌∷◌, ◌++◌, length, take, drop, codes, refl, sym, ap, subst, ◌∙◌, arith, append_assoc, length-append}
+use Rattle.std.proofs.Common.{◌≡◌, ◌==◌, ◌+◌, ◌-◌, ◌≤◌, ◌<◌, ◌^◌, ℕ, Bool, true, false, ◌&&◌, ◌||◌, not, cond, bytes_eq, None, Some, List, [], ◌∷◌, ◌++◌, length, take, drop, codes, refl, sym, ap, ◌∙◌, arith, length-append}
 use Rattle.std.specs.List.{list_all}
-use Rattle.std.proofs.lemmas.Bool.{le-leb, leb-true}
+use Rattle.std.proofs.lemmas.Bool.{le-leb}
 use Rattle.std.proofs.lemmas.List.{take-append-le, drop-append-le}
 use Rattle.std.proofs.lemmas.List.Folds.{list_all-append}
 use Rattle.std.proofs.lemmas.Slice.Eq.{bytes_eq-Decides}
 use Rattle.rst_lex.specs.Bytes.{is_letter, is_digit as is_name_digit, is_name_start, is_name_byte}
 use Rattle.rst_lex.specs.Words.{is_keyword, is_identifier}
 use Rattle.rst_cert_lines.specs.Reading.{Read, after}
-use Rattle.rst_cert_lines.proofs.Binds.{no_some, both_true}
 use Rattle.rst_cert_lines.proofs.WordLaws.{after_takes, after_again}
 use Rattle.rst_cert_reader.specs.declared.heading.HeadLine.TheVariants.{Version, Form, Clock, Registers, Inputs, Outputs, Kind}
 use Rattle.rst_cert_reader.specs.declared.heading.Heading.{Heading}
@@ -89,6 +88,10 @@ start_by false false true s e = absurd (cc)
 no_start : (byte : ℕ) → is_name_byte byte ≡ false → is_name_start byte ≡ false
 no_start byte e = start_by (is_letter byte) (is_name_digit byte) (byte == 95) (byte == 36) e
 
+and_true : (x : Bool) → (x && true) ≡ x
+and_true true = refl
+and_true false = refl
+
 and_false : (x : Bool) → (x && false) ≡ false
 and_false true = refl
 and_false false = refl
@@ -101,6 +104,15 @@ name_broken (b ∷ name) more byte e =
     ∙ ap (λ (x : Bool). is_name_start b && (list_all is_name_byte name && (x && list_all is_name_byte more))) e
     ∙ ap (λ (x : Bool). is_name_start b && x) (and_false (list_all is_name_byte name))
     ∙ and_false (is_name_start b)
+
+-- a name with one byte more
+pub name_grows : (name : List ℕ) (byte : ℕ) → is_identifier name ≡ true → is_name_byte byte ≡ true → is_identifier (name ++ byte ∷ []) ≡ true
+name_grows [] byte e is = absurd (cc)
+name_grows (b ∷ name) byte e is =
+    ap (λ (x : Bool). is_name_start b && x) (list_all-append is_name_byte name (byte ∷ []))
+    ∙ ap (λ (x : Bool). is_name_start b && (list_all is_name_byte name && (x && true))) is
+    ∙ ap (λ (x : Bool). is_name_start b && x) (and_true (list_all is_name_byte name))
+    ∙ e
 
 -- a name that is none
 pub name_fault : (h : Heading) (g : Gathered) (stage : Stage) (number : ℕ) (name : List ℕ) → is_identifier name ≡ false → name_taken h g stage number name ≡ behind_fault stage number
@@ -120,10 +132,6 @@ name_fault h g BadHead number name e = refl
 name_fault h g (Bad first) number name e = refl
 
 -- a long number
-
-and_true : (x : Bool) → (x && true) ≡ x
-and_true true = refl
-and_true false = refl
 
 digits_by : (a b c : Bool) → (true && (a && b) && c) ≡ ((true && a && c) && b)
 digits_by true true c = sym (and_true c)

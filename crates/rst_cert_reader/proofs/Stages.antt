@@ -12,7 +12,6 @@ use Rattle.rst_cert_reader.specs.declared.stage.Stage.{Stage}
 use Rattle.rst_cert_reader.specs.declared.stage.Stage.TheVariants.{Head, Begin, Items, Endless, End, Closed, BadHead, Bad}
 use Rattle.rst_cert_reader.specs.Readings.{Reading, stage_behind, stage_behind_head, stage_with, told, taken}
 use Rattle.rst_cert_reader.specs.Kept.{name_taken, clause_read}
-use Rattle.rst_cert_reader.specs.Keeping.{is_short}
 
 -- whatever is due, but no fault
 abbrev pub shown : Heading → Gathered → Stage → Reading
@@ -125,23 +124,6 @@ told_stage heading gathered End = refl
 told_stage heading gathered Closed = refl
 told_stage heading gathered BadHead = refl
 told_stage heading gathered (Bad first) = refl
-
-pub short_told : (heading : Heading) (gathered : Gathered) (stage : Stage)
-    → is_short (told heading gathered stage).heading (told heading gathered stage).gathered (told heading gathered stage).stage ≡ is_short heading gathered stage
-short_told heading gathered (Head Version) = refl
-short_told heading gathered (Head Form) = refl
-short_told heading gathered (Head Clock) = refl
-short_told heading gathered (Head Registers) = refl
-short_told heading gathered (Head Inputs) = refl
-short_told heading gathered (Head Outputs) = refl
-short_told heading gathered (Head Kind) = refl
-short_told heading gathered (Begin section) = refl
-short_told heading gathered (Items section left) = refl
-short_told heading gathered Endless = refl
-short_told heading gathered End = refl
-short_told heading gathered Closed = refl
-short_told heading gathered BadHead = refl
-short_told heading gathered (Bad first) = refl
 
 pub name_told : (heading : Heading) (gathered : Gathered) (stage : Stage) (number : ℕ) (name : List ℕ)
     → name_taken (told heading gathered stage).heading (told heading gathered stage).gathered (told heading gathered stage).stage number name ≡ name_taken heading gathered stage number name

@@ -1,14 +1,10 @@
 -- What a reader keeps behind each byte. Words of the contracts inside this crate, which no public clause cites.
-use Rattle.std.specs.Prelude.{◌≡◌, ◌==◌, ◌&&◌, not, nat_le, bytes_eq, ℕ, ℤ, Bool, true, false, Option, None, Some, Result, Ok, Err, List, [], ◌∷◌, ◌++◌, length, codes, if◌then◌else◌}
-use Rattle.std.specs.List.{list_all}
+use Rattle.std.specs.Prelude.{◌==◌, nat_le, bytes_eq, ℕ, ℤ, Bool, true, false, Option, None, Some, Result, Err, List, [], ◌∷◌, ◌++◌, length, codes, if◌then◌else◌}
 use Rattle.rst_lex.specs.Bytes.{is_name_byte}
 use Rattle.rst_lex.specs.Words.{is_identifier}
 use Rattle.rst_verdict.specs.declared.cert.Cert.{Cert}
 use Rattle.rst_cert_lines.specs.Reading.{Read, after, literal_at}
-use Rattle.rst_cert_reader.specs.declared.heading.HeadLine.{HeadLine}
 use Rattle.rst_cert_reader.specs.declared.heading.HeadLine.TheVariants.{Version, Form, Clock, Registers, Inputs, Outputs, Kind}
-use Rattle.rst_cert_reader.specs.declared.heading.Heading.{Heading}
-use Rattle.rst_cert_reader.specs.declared.gathered.Gathered.{Gathered}
 use Rattle.rst_cert_reader.specs.declared.section.Section.{Section}
 use Rattle.rst_cert_reader.specs.declared.section.Section.TheVariants.{FreeSteps, Steps, Word, Equal, StateA, StateB, Blocked, Freed, SplitLog, LandLog, EscapeLog, StuckLog, Journal}
 use Rattle.rst_cert_reader.specs.declared.stage.Stage.{Stage}
@@ -36,27 +32,6 @@ is_log LandLog = true
 is_log EscapeLog = true
 is_log StuckLog = true
 is_log Journal = false
-
--- what is read has the limits of the format
-abbrev pub is_small : Heading → Gathered → Bool
-is_small h g = (nat_le h.registers 512 && nat_le h.inputs 256) && (nat_le g.blocked_entries 100000 && nat_le g.freed_entries 100000)
-
--- a line of 4,096 bytes is at fault where this is due
-abbrev pub is_short : Heading → Gathered → Stage → Bool
-is_short h g (Head Version) = true
-is_short h g (Head Form) = true
-is_short h g (Head Clock) = false
-is_short h g (Head Registers) = true
-is_short h g (Head Inputs) = true
-is_short h g (Head Outputs) = true
-is_short h g (Head Kind) = true
-is_short h g (Begin section) = is_small h g && not (is_log section)
-is_short h g (Items section left) = is_small h g && not (is_log section)
-is_short h g Endless = false
-is_short h g End = true
-is_short h g Closed = true
-is_short h g BadHead = true
-is_short h g (Bad first) = true
 
 -- the line of which the bytes are kept ends
 abbrev pub whole_ends : Kept → Kept
@@ -180,24 +155,21 @@ clause_begun k None = line_lost k
 clause_begun k (Some it) = bytes_go (clause_start k) it.1
 
 -- of another nothing
-abbrev pub short_begun : Kept → Kept
-short_begun k = if is_short k.reading.heading k.reading.gathered k.reading.stage then line_lost k else k
-
 abbrev pub begun_by : Stage → Kept → Kept
-begun_by (Head Version) k = short_begun k
-begun_by (Head Form) k = short_begun k
+begun_by (Head Version) k = line_lost k
+begun_by (Head Form) k = line_lost k
 begun_by (Head Clock) k = name_begun k (after (codes "clock ") k.partial)
-begun_by (Head Registers) k = short_begun k
-begun_by (Head Inputs) k = short_begun k
-begun_by (Head Outputs) k = short_begun k
-begun_by (Head Kind) k = short_begun k
-begun_by (Begin section) k = if is_log section then digits_begun section k else short_begun k
-begun_by (Items section left) k = if is_log section then clause_begun k (after (codes "clause ") k.partial) else short_begun k
+begun_by (Head Registers) k = line_lost k
+begun_by (Head Inputs) k = line_lost k
+begun_by (Head Outputs) k = line_lost k
+begun_by (Head Kind) k = line_lost k
+begun_by (Begin section) k = if is_log section then digits_begun section k else line_lost k
+begun_by (Items section left) k = if is_log section then clause_begun k (after (codes "clause ") k.partial) else line_lost k
 begun_by Endless k = clause_begun k (after (codes "clause ") k.partial)
-begun_by End k = short_begun k
-begun_by Closed k = short_begun k
-begun_by BadHead k = short_begun k
-begun_by (Bad first) k = short_begun k
+begun_by End k = line_lost k
+begun_by Closed k = line_lost k
+begun_by BadHead k = line_lost k
+begun_by (Bad first) k = line_lost k
 
 abbrev pub long_begun : Kept → Kept
 long_begun k = begun_by k.reading.stage k

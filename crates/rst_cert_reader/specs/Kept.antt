@@ -1,6 +1,7 @@
 -- What a reader keeps of a text, and the texts that it stands for.
-use Rattle.std.specs.Prelude.{◌≡◌, ◌<◌, ℕ, ℤ, Bool, Option, None, Some, option_map, List, [], ◌∷◌, ◌++◌, length, if◌then◌else◌}
+use Rattle.std.specs.Prelude.{◌≡◌, ◌<◌, ◌≤◌, ℕ, ℤ, Bool, true, Option, None, Some, option_map, List, [], ◌∷◌, ◌++◌, length, if◌then◌else◌}
 use Rattle.std.specs.List.{list_all}
+use Rattle.rst_lex.specs.Words.{is_identifier}
 use Rattle.rst_cert_lines.specs.Reading.{word_of, literals_behind}
 use Rattle.rst_cert_reader.specs.declared.heading.HeadLine.TheVariants.{Version, Form, Clock, Registers, Inputs, Outputs, Kind}
 use Rattle.rst_cert_reader.specs.declared.heading.Heading.{Heading}
@@ -105,22 +106,23 @@ behind Name k more = name_taken k.reading.heading k.reading.gathered k.reading.s
 behind Digits k more = digits_taken k.reading.stage (next_number k.number) more
 behind Clause k more = clause_taken k.reading.heading k.reading.gathered k.reading.stage (next_number k.number) (clause_behind k.literals (k.partial ++ more))
 
--- the bytes behind a clause's last space have none
-abbrev pub IsWord : Line → List ℕ → Type 0
-IsWord Bytes bytes = Unit {0}
-IsWord Nothing bytes = Unit {0}
-IsWord Name bytes = Unit {0}
-IsWord Digits bytes = Unit {0}
-IsWord Clause bytes = word_of bytes ≡ bytes
+-- what is kept of the line's bytes: 4,096 of them at most, or the clock's name. Behind a clause's last space there is none.
+abbrev pub AreKept : Line → List ℕ → Type 0
+AreKept Bytes bytes = length bytes ≤ 4096
+AreKept Nothing bytes = bytes ≡ []
+AreKept Name bytes = is_identifier bytes ≡ true
+AreKept Digits bytes = bytes ≡ []
+AreKept Clause bytes = (length bytes ≤ 4096) × (word_of bytes ≡ bytes)
 
 -- the line under way is longer than `end`, and whatever follows in it, what is kept tells what was read behind it
 pub record IsLong (line : Line) (kept : Kept) (s : ReaderState) : Type 0 where
   pub long : 3 < length s.partial
   pub always : (more : List ℕ) → taken s.reading.heading s.reading.gathered s.reading.stage (next_number s.number) (s.partial ++ more) ≡ behind line kept more
-  pub word : IsWord line kept.partial
+  pub bytes : AreKept line kept.partial
 
+-- the line under way, by what is kept of it
 abbrev pub HasLine : Line → Kept → ReaderState → Type 0
-HasLine Bytes kept s = (kept.reading ≡ s.reading) × (kept.partial ≡ s.partial)
+HasLine Bytes kept s = (kept.reading ≡ s.reading) × (kept.partial ≡ s.partial) × AreKept Bytes kept.partial
 HasLine Nothing kept s = IsLong Nothing kept s
 HasLine Name kept s = IsLong Name kept s
 HasLine Digits kept s = IsLong Digits kept s

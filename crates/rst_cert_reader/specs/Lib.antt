@@ -3,7 +3,7 @@
 pub mod Headings
 pub mod Sections
 pub mod Readings
--- To be believed too: Kept, the texts that a reader stands for.
+-- To be believed too: Kept, the texts that a reader stands for, and how little it keeps of a line.
 pub mod Kept
 -- Words of contracts inside the crate.
 pub mod Keeping

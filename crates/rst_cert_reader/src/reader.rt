@@ -5,14 +5,14 @@ ghost use Rattle.rst_cert_lines.specs.Reading.{after, literal_at};
 ghost use Rattle.rst_cert_reader.specs.Headings.{whole};
 ghost use Rattle.rst_cert_reader.specs.Readings.{endless, verdict_of, cert_from, cert_of, Answers};
 ghost use Rattle.rst_cert_reader.specs.Kept.{StandsFor};
-ghost use Rattle.rst_cert_reader.specs.Keeping.{whole_ends, long_ends, name_ends, literals_end, clause_ends, line_ends, line_lost, with_byte, name_goes, digits_go, with_literal, literal_goes, word_goes, clause_goes, byte_goes, bytes_go, name_begun, digits_begun, clause_begun, short_begun, long_begun, readied, line_goes, kept_behind, kept_all, kept_finished, kept_start};
+ghost use Rattle.rst_cert_reader.specs.Keeping.{whole_ends, long_ends, name_ends, literals_end, clause_ends, line_ends, line_lost, with_byte, name_goes, digits_go, with_literal, literal_goes, word_goes, clause_goes, byte_goes, bytes_go, name_begun, digits_begun, clause_begun, long_begun, readied, line_goes, kept_behind, kept_all, kept_finished, kept_start};
 ghost use Rattle.rst_cert_reader.specs.declared.stage.Stage.TheVariants.{Closed};
 
 use crate::gathered::{Gathered, is_digit, is_long_log};
 use crate::heading::{CertKind, HeadLine, Heading};
 use crate::line::{Line, is_identifier, is_name_byte, read_literal};
 use crate::section::Section;
-use crate::stage::{Stage, is_log, is_short, stage_behind_fault, take, take_literals, take_name};
+use crate::stage::{Stage, is_log, stage_behind_fault, take, take_literals, take_name};
 use rst_cert_lines::{Cursor, LineFault};
 use rst_clause::{Clause, Lit};
 use rst_outside::NoMemory;
@@ -362,16 +362,6 @@ impl CertReader {
         self.next_bytes(cursor.rest())
     }
 
-    // Keeps nothing of a line that has no business to be long.
-    #[tactic(auto, using(crate::proofs::Stages::short_told))]
-    fn begin_short(&mut self)
-        ensures { self.new ≡ option_map short_begun self.old }
-    {
-        if is_short(&self.heading, &self.gathered, self.stage) {
-            self.lose_line();
-        }
-    }
-
     // Keeps of a line that is long what it takes to read it on.
     #[tactic(auto, using(crate::proofs::Stages::told_stage))]
     fn begin_long(&mut self) -> Result<(), NoMemory>
@@ -386,7 +376,7 @@ impl CertReader {
             Stage::Items(section, _) if is_log(section) => self.begin_clause(),
             Stage::Endless => self.begin_clause(),
             _ => {
-                self.begin_short();
+                self.lose_line();
                 Ok(())
             }
         }

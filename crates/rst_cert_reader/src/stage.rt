@@ -5,7 +5,7 @@ ghost use Rattle.rst_cert_reader.specs.Headings.{with_line};
 ghost use Rattle.rst_cert_reader.specs.Sections.{with_item, begun_by, is_clause, is_long_log};
 ghost use Rattle.rst_cert_reader.specs.Readings.{first_section, stage_behind, stage_behind_head, stage_with, told, with_head, with_begun, with_more, taken, endless, bad_line};
 ghost use Rattle.rst_cert_reader.specs.Kept.{behind_fault, name_taken, with_clause, clause_read};
-ghost use Rattle.rst_cert_reader.specs.Keeping.{is_log, is_small, is_short};
+ghost use Rattle.rst_cert_reader.specs.Keeping.{is_log};
 ghost use Rattle.rst_cert_reader.specs.declared.heading.Heading.{Heading};
 
 use crate::gathered::{Gathered, is_clause, is_long_log};
@@ -314,27 +314,6 @@ pub(crate) fn is_log(section: Section) -> bool
         | Section::Blocked
         | Section::Freed
         | Section::Journal => false,
-    }
-}
-
-// Whether what was read has the limits of the format.
-fn is_small(heading: &Heading, gathered: &Gathered) -> bool
-    ensures { result ≡ is_small heading.now gathered.now }
-{
-    (heading.registers <= 512 && heading.inputs <= 256)
-        && (gathered.blocked_entries <= 100_000 && gathered.freed_entries <= 100_000)
-}
-
-/// Whether a line of 4,096 bytes is at fault where this is due.
-pub(crate) fn is_short(heading: &Heading, gathered: &Gathered, stage: Stage) -> bool
-    ensures { result ≡ is_short heading.now gathered.now stage }
-{
-    match stage {
-        Stage::Head(HeadLine::Clock) | Stage::Endless => false,
-        Stage::Begin(section) | Stage::Items(section, _) => {
-            is_small(heading, gathered) && !is_log(section)
-        }
-        Stage::Head(_) | Stage::End | Stage::Closed | Stage::BadHead | Stage::Bad(_) => true,
     }
 }
 
