@@ -37,7 +37,7 @@ pub enum CertFault {
     NoMemory,
 }
 
-/// Reads a certificate piece by piece, so that neither its text nor a line of it is held whole.
+/// Reads a certificate piece by piece, so that neither its text nor a long line of it is held whole.
 ///
 /// Of the line under way at most 4,096 bytes are kept. A longer line is at fault, and nothing of it is kept,
 /// but for three. Of the clock's line the name is kept, of the first line of a log only that its number is
