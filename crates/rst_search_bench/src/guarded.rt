@@ -1,36 +1,43 @@
 // Queries about a design with guarded data: an output word that is a data register where a valid
 // bit holds, and zero elsewhere. Two power-up states that agree on the valid bit have to give
 // equal outputs, and their successors too.
-ghost use Rattle.std.specs.Prelude.{◌+◌, ◌<◌, ◌^◌, IsTrue};
-ghost use Rattle.rst_clause.specs.Literals.{IsLiteral, AreLiterals};
+ghost use Rattle.std.specs.Prelude.{◌<◌, ◌≤◌, ◌^◌};
 
-use rst_clause::{ClauseDomain, Clauses, Lit};
+use rst_clause::{Clauses, Lit};
 use rst_outside::NoMemory;
-use rst_value::Domain;
+use rst_query_text::Posing;
 use std::alloc::Global;
 
-/// The most data bits of a design here.
-pub(crate) const MOST_BITS: u32 = 1024;
+// The most data bits of a design here.
+const MOST_BITS: u32 = 1024;
+
+/// Variables of a query that stand one behind another, or where the step is 0 again and again the
+/// same one.
+#[derive(Clone, Copy)]
+struct Word {
+    first: u32,
+    step: u32,
+}
 
 /// The registers of one copy of the design.
-#[derive(Drop)]
+#[derive(Clone, Copy)]
 struct Registers {
     valid: Lit,
-    data: Vec<Lit>,
+    data: Word,
 }
 
 /// The inputs of a cycle.
-#[derive(Drop)]
+#[derive(Clone, Copy)]
 struct Inputs {
     reset: Lit,
     enable: Lit,
-    data: Vec<Lit>,
+    data: Word,
 }
 
-/// What one copy of the design gives in a cycle.
-#[derive(Drop)]
+/// What one copy of the design gives in a cycle, beside its valid bit.
+#[derive(Clone, Copy)]
 struct Cycle {
-    outputs: Vec<Lit>,
+    outputs: Word,
     next: Registers,
 }
 
@@ -38,127 +45,103 @@ struct Cycle {
 /// register has this value at this bit, and the right one has the other.
 #[derive(Clone, Copy)]
 pub(crate) struct Blocked {
-    bit: usize,
+    bit: u32,
     left: bool,
 }
 
-/// A query under construction. A literal that isn't one of the query is refused like want of
-/// memory; here none is.
+// The literal of a variable.
+fn literal(variable: u32) -> Result<Lit, NoMemory> {
+    if variable == 0 || variable >= 2_147_483_648 {
+        return Err(NoMemory);
+    }
+    Ok(Lit::of_variable(variable))
+}
+
+fn not(lit: Lit) -> Result<Lit, NoMemory> {
+    if lit.variable() >= 2_147_483_648 {
+        return Err(NoMemory);
+    }
+    Ok(lit.opposite())
+}
+
+// Variables that stand one behind another, from the one behind this.
+fn behind(variable: u32) -> Word {
+    Word {
+        first: variable.saturating_add(1),
+        step: 1,
+    }
+}
+
+impl Word {
+    fn bit(&self, place: u32) -> Result<Lit, NoMemory> {
+        literal(self.first.saturating_add(self.step.saturating_mul(place)))
+    }
+}
+
+/// A query under construction, about data of so many bits.
 #[derive(Drop)]
 struct Query {
-    alloc: Global,
-    domain: ClauseDomain,
+    posing: Posing,
+    bits: u32,
+    low: Lit,
+    last: u32,
 }
 
 impl Query {
-    fn new(alloc: Global, free: u32) -> Result<Query, NoMemory> {
-        if free > 4 * MOST_BITS {
-            return Err(NoMemory);
-        }
-        let domain = ClauseDomain::new(alloc, free)?;
-        Ok(Query { alloc, domain })
+    fn new(alloc: Global, bits: u32, free: u32) -> Result<Query, NoMemory> {
+        let last = free.saturating_add(1);
+        Ok(Query {
+            posing: Posing::new(alloc, free)?,
+            bits,
+            low: literal(last)?,
+            last,
+        })
     }
 
-    // Whether the literal is one of the query, and there is room for another variable.
-    fn has(&self, lit: Lit) -> bool
-        ensures held { IsTrue result → IsLiteral self.now.domain.clauses.vars lit }
-        ensures room { IsTrue result → self.now.domain.clauses.vars + 1 < 2 ^ 31 }
-    {
-        let vars = self.domain.clauses.vars;
-        lit.variable() <= vars && vars < 2_147_483_646
-    }
-
-    // Whether all the literals are ones of the query.
-    fn has_all(&self, lits: &[Lit]) -> bool
-        ensures { IsTrue result → AreLiterals self.now.domain.clauses.vars lits.now }
-    {
-        for i in 0..lits.len() {
-            let lit = lits[i];
-            if lit.variable() > self.domain.clauses.vars {
-                return false;
-            }
-        }
-        true
-    }
-
-    fn constant(&mut self, bit: bool) -> Result<Lit, NoMemory> {
-        if self.domain.clauses.vars >= 2_147_483_646 {
-            return Err(NoMemory);
-        }
-        self.domain.constant(bit)
-    }
-
-    fn not(&mut self, a: Lit) -> Result<Lit, NoMemory> {
-        if !self.has(a) {
-            return Err(NoMemory);
-        }
-        self.domain.not(a)
+    // The variable of the gate that was added.
+    fn made(&mut self) -> Result<Lit, NoMemory> {
+        self.last = self.last.saturating_add(1);
+        literal(self.last)
     }
 
     fn and(&mut self, a: Lit, b: Lit) -> Result<Lit, NoMemory> {
-        if !self.has(a) || !self.has(b) {
-            return Err(NoMemory);
-        }
-        self.domain.and(a, b)
+        self.posing.and(a, b)?;
+        self.made()
     }
 
     fn xor(&mut self, a: Lit, b: Lit) -> Result<Lit, NoMemory> {
-        if !self.has(a) || !self.has(b) {
-            return Err(NoMemory);
-        }
-        self.domain.xor(a, b)
+        self.posing.xor(a, b)?;
+        self.made()
     }
 
     fn mux(&mut self, select: Lit, one: Lit, zero: Lit) -> Result<Lit, NoMemory> {
-        if !self.has(select) || !self.has(one) || !self.has(zero) {
-            return Err(NoMemory);
-        }
-        self.domain.mux(select, one, zero)
+        self.posing.mux(select, one, zero)?;
+        self.made()
     }
 
-    // Asks that one of the literals holds.
-    fn require(&mut self, lits: &[Lit]) -> Result<(), NoMemory> {
-        if !self.has_all(lits) {
-            return Err(NoMemory);
+    // The bits of one word where the literal holds, and else those of the other.
+    fn choose(&mut self, select: Lit, one: Word, zero: Word) -> Result<Word, NoMemory> {
+        let word = behind(self.last);
+        for place in 0..self.bits {
+            self.mux(select, one.bit(place)?, zero.bit(place)?)?;
         }
-        self.domain.require(lits)
+        Ok(word)
     }
 
-    // The free bits from a place on, so many of them.
-    fn free_bits(&self, from: u32, count: u32) -> Result<Vec<Lit>, NoMemory> {
-        let mut bits = Vec::new(self.alloc);
-        for i in 0..count {
-            let place = from.saturating_add(i);
-            if place >= self.domain.clauses.free {
-                return Err(NoMemory);
-            }
-            bits.push(self.domain.free_bit(place))?;
+    // A word of which all bits are false.
+    fn zero(&self) -> Word {
+        Word {
+            first: self.low.variable(),
+            step: 0,
         }
-        Ok(bits)
-    }
-
-    // One free bit.
-    fn free_bit(&self, place: u32) -> Result<Lit, NoMemory> {
-        if place >= self.domain.clauses.free {
-            return Err(NoMemory);
-        }
-        Ok(self.domain.free_bit(place))
     }
 
     // One cycle of the design: the outputs are the valid bit and the data where it holds; the
     // valid bit is the enable where there is no reset, and the data are kept without an enable.
     fn cycle(&mut self, inputs: &Inputs, now: &Registers) -> Result<Cycle, NoMemory> {
-        let low = self.constant(false)?;
-        let mut outputs = Vec::new(self.alloc);
-        outputs.push(now.valid)?;
-        for bit in &now.data {
-            outputs.push(self.mux(now.valid, *bit, low)?)?;
-        }
-        let valid = self.mux(inputs.reset, low, inputs.enable)?;
-        let mut data = Vec::new(self.alloc);
-        for (new, old) in inputs.data.iter().zip(now.data.iter()) {
-            data.push(self.mux(inputs.enable, *new, *old)?)?;
-        }
+        let outputs = self.choose(now.valid, now.data, self.zero())?;
+        let valid = self.mux(inputs.reset, self.low, inputs.enable)?;
+        let data = self.choose(inputs.enable, inputs.data, now.data)?;
         Ok(Cycle {
             outputs,
             next: Registers { valid, data },
@@ -172,39 +155,11 @@ impl Query {
         left: &Registers,
         right: &Registers,
     ) -> Result<Lit, NoMemory> {
-        let (Some(a), Some(b)) = (left.data.get(blocked.bit), right.data.get(blocked.bit)) else {
-            return Err(NoMemory);
-        };
-        let (a, b) = (*a, *b);
-        let high = self.constant(true)?;
-        let valid = self.and(high, left.valid)?;
-        let one = if blocked.left { a } else { self.not(a)? };
-        let both = self.and(valid, one)?;
-        let other = if blocked.left { self.not(b)? } else { b };
-        self.and(both, other)
-    }
-
-    // Registers that are free bits.
-    fn registers(&self, valid: u32, from: u32, bits: u32) -> Result<Registers, NoMemory> {
-        Ok(Registers {
-            valid: self.free_bit(valid)?,
-            data: self.free_bits(from, bits)?,
-        })
-    }
-
-    // The inputs of a cycle of the reset, all others low.
-    fn reset_inputs(&mut self, bits: u32) -> Result<Inputs, NoMemory> {
-        let reset = self.constant(true)?;
-        let enable = self.constant(false)?;
-        let mut data = Vec::new(self.alloc);
-        for _ in 0..bits {
-            data.push(enable)?;
-        }
-        Ok(Inputs {
-            reset,
-            enable,
-            data,
-        })
+        let a = left.data.bit(blocked.bit)?;
+        let b = right.data.bit(blocked.bit)?;
+        let valid = self.and(not(self.low)?, left.valid)?;
+        let both = self.and(valid, if blocked.left { a } else { not(a)? })?;
+        self.and(both, if blocked.left { not(b)? } else { b })
     }
 
     // Asks that the pair of states is none of the blocked ones.
@@ -216,19 +171,22 @@ impl Query {
     ) -> Result<(), NoMemory> {
         for cube in blocked {
             let inside = self.lies_in(*cube, left, right)?;
-            let outside = self.not(inside)?;
-            self.require(&[outside])?;
+            self.posing.require(&[not(inside)?])?;
         }
         Ok(())
     }
 
-    // For each output whether the two differ.
-    fn differences(&mut self, first: &[Lit], second: &[Lit]) -> Result<Vec<Lit>, NoMemory> {
-        let mut differ = Vec::new(self.alloc);
-        for (a, b) in first.iter().zip(second.iter()) {
-            differ.push(self.xor(*a, *b)?)?;
+    // Adds for each output behind the valid bit whether the two differ.
+    fn add_differences(
+        &mut self,
+        some: &mut Vec<Lit>,
+        first: Word,
+        second: Word,
+    ) -> Result<(), NoMemory> {
+        for place in 0..self.bits {
+            some.push(self.xor(first.bit(place)?, second.bit(place)?)?)?;
         }
-        Ok(differ)
+        Ok(())
     }
 
     // Adds for each set of blocked pairs whether the pair of states lies in it.
@@ -253,21 +211,30 @@ pub(crate) fn split(alloc: Global, bits: u32, blocked: &[Blocked]) -> Result<Cla
     if bits > MOST_BITS {
         return Err(NoMemory);
     }
-    let mut query = Query::new(alloc, 3 * bits + 3)?;
     let inputs = Inputs {
-        reset: query.free_bit(0)?,
-        enable: query.free_bit(1)?,
-        data: query.free_bits(2, bits)?,
+        reset: literal(1)?,
+        enable: literal(2)?,
+        data: behind(2),
     };
-    let left = query.registers(bits + 2, bits + 3, bits)?;
-    let right = query.registers(bits + 2, 2 * bits + 3, bits)?;
+    let valid = literal(bits + 3)?;
+    let left = Registers {
+        valid,
+        data: behind(bits + 3),
+    };
+    let right = Registers {
+        valid,
+        data: behind(2 * bits + 3),
+    };
+    let mut query = Query::new(alloc, bits, 3 * bits + 3)?;
     let first = query.cycle(&inputs, &left)?;
     let second = query.cycle(&inputs, &right)?;
     query.forbid(blocked, &left, &right)?;
-    let mut some = query.differences(&first.outputs, &second.outputs)?;
+    let mut some = Vec::new(alloc);
+    some.push(query.xor(valid, valid)?)?;
+    query.add_differences(&mut some, first.outputs, second.outputs)?;
     query.add_each(&mut some, blocked, &first.next, &second.next)?;
-    query.require(&some)?;
-    Ok(query.domain.finish())
+    query.posing.require(&some)?;
+    Ok(query.posing.finish())
 }
 
 /// The query whether some pair of states is blocked behind one cycle of the reset. Its free bits
@@ -276,23 +243,33 @@ pub(crate) fn land(alloc: Global, bits: u32, blocked: &[Blocked]) -> Result<Clau
     if bits > MOST_BITS {
         return Err(NoMemory);
     }
-    let mut query = Query::new(alloc, 2 * bits + 2)?;
-    let left = query.registers(0, 1, bits)?;
-    let right = query.registers(bits + 1, bits + 2, bits)?;
-    let inputs = query.reset_inputs(bits)?;
+    let left = Registers {
+        valid: literal(1)?,
+        data: behind(1),
+    };
+    let right = Registers {
+        valid: literal(bits + 2)?,
+        data: behind(bits + 2),
+    };
+    let mut query = Query::new(alloc, bits, 2 * bits + 2)?;
+    let inputs = Inputs {
+        reset: not(query.low)?,
+        enable: query.low,
+        data: query.zero(),
+    };
     let first = query.cycle(&inputs, &left)?;
     let second = query.cycle(&inputs, &right)?;
     let mut some = Vec::new(alloc);
     query.add_each(&mut some, blocked, &first.next, &second.next)?;
-    query.require(&some)?;
-    Ok(query.domain.finish())
+    query.posing.require(&some)?;
+    Ok(query.posing.finish())
 }
 
 /// The sets of pairs that differ at some bit, for each bit and both ways round: what is blocked
 /// in the end.
 pub(crate) fn all_blocked(alloc: Global, bits: u32) -> Result<Vec<Blocked>, NoMemory> {
     let mut blocked = Vec::new(alloc);
-    for bit in 0..bits as usize {
+    for bit in 0..bits {
         blocked.push(Blocked { bit, left: false })?;
         blocked.push(Blocked { bit, left: true })?;
     }
@@ -304,11 +281,13 @@ pub(crate) fn all_blocked(alloc: Global, bits: u32) -> Result<Vec<Blocked>, NoMe
 pub(crate) fn blocked_by(bits: u32, model: &[bool]) -> Option<Blocked> {
     let width = bits as usize;
     let (_, data) = model.split_at_checked(width.saturating_add(3))?;
-    let (left, right) = data.split_at_checked(width)?;
     let mut found = None;
-    for (bit, (a, b)) in left.iter().zip(right.iter()).enumerate() {
-        if *a != *b {
-            found = Some(Blocked { bit, left: *a });
+    for bit in 0..bits {
+        let place = bit as usize;
+        let left = data.get(place)?;
+        let right = data.get(width + place)?;
+        if *left != *right {
+            found = Some(Blocked { bit, left: *left });
         }
     }
     found

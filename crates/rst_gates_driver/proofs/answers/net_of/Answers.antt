@@ -1,7 +1,0 @@
-use Rattle.rst_gates_driver.proofs.Lowerable.{lowerable}
-use Rattle.rst_gates_driver.proofs.answers.net_of.Goals as goal
-
-pub returns : goal.returns
-returns c =
-    let laws = c.nets_are_sources.ensures in
-    lowerable _ _ _ c.read_design.result laws.fits laws.widths c.read_design.ensures.accepted
