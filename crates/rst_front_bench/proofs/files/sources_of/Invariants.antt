@@ -4,4 +4,4 @@ use Rattle.rst_hierarchy.specs.Tables.{modules_in}
 use Rattle.rst_front_bench.proofs.files.sources_of.Given as goal
 
 abbrev pub invariant-loop-text : goal.invariant-loop-text
-invariant-loop-text g l = All WellFormed (modules_in l.sources.items)
+invariant-loop-text l = All WellFormed (modules_in l.sources.items)
