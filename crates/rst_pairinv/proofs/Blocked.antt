@@ -1,8 +1,8 @@
 -- Blocked hops are hops of the pair, and tell the pairs of their cubes apart.
-use Rattle.std.proofs.Common.{◌≡◌, ◌∙◌, ℕ, zero, suc, ◌<◌, ◌≤◌, ◌+◌, Bool, List, [], ◌∷◌, length, get_or, take, refl, ap, sym, subst, arith}
+use Rattle.std.proofs.Common.{◌≡◌, ◌∙◌, ℕ, zero, suc, ◌<◌, ◌≤◌, Bool, List, [], ◌∷◌, length, get_or, take, refl, ap, sym, subst, arith}
 use Rattle.std.specs.Prelude.{Option, None, Some}
 use Rattle.std.specs.Option.{ForSome}
-use Rattle.std.proofs.lemmas.List.{length-take-le, get_or-take, get_or-map}
+use Rattle.std.proofs.lemmas.List.{length-take-le, get_or-map}
 use Rattle.rst_gate.specs.Machine.{SameAcross}
 use Rattle.rst_gate.proofs.Readings.{gates_keep_states}
 use Rattle.rst_gate.proofs.Relations.{same-inductive}
@@ -13,7 +13,6 @@ use Rattle.rst_pair.specs.Aims.{Leads, LiesInNone}
 use Rattle.rst_pair.specs.Hops.{AreHops, IsHop, cubes_of, cube_at, blocked_aim}
 use Rattle.rst_pair.specs.Fronts.{Front', IsFront}
 use Rattle.rst_pose.specs.Posing.{IsSmall, IsWithin}
-use Rattle.rst_pose.specs.Works.{blocked_of}
 use Rattle.rst_pairinv.specs.declared.block.Refining.{Refining}
 use Rattle.rst_pairinv.specs.Blocking.{IsBlockedHop, AreBlocked}
 use Rattle.rst_pairinv.specs.Turns.{IsRefining}

@@ -1,5 +1,5 @@
 -- Where no related pair splits, the related pairs are those that agree on the marked registers and behave the same.
-use Rattle.std.proofs.Common.{◌≡◌, ◌∙◌, ℕ, zero, suc, ◌<◌, ◌+◌, ◌⊎◌, inl, inr, ℤ, Bool, true, false, List, [], ◌∷◌, ◌++◌, length, get_or, take, drop, refl, ap, sym, subst, arith, length-append, length-drop, ◌-◌, ◌≤◌}
+use Rattle.std.proofs.Common.{◌≡◌, ◌∙◌, ℕ, zero, suc, ◌<◌, ◌+◌, inl, inr, ℤ, Bool, true, false, List, [], ◌∷◌, ◌++◌, length, take, drop, refl, ap, sym, subst, arith, length-append, length-drop, ◌-◌, ◌≤◌}
 use Rattle.std.specs.Prelude.{slice_index_or}
 use Rattle.std.proofs.Math.Logic.{∥∥₁_elim}
 use Rattle.std.proofs.lemmas.List.{length-take-le}
@@ -7,7 +7,7 @@ use Rattle.rst_clause.specs.Solutions.{IsSolution}
 use Rattle.rst_pair.specs.declared.journal.Entry.{Entry}
 use Rattle.rst_pairinv.specs.declared.block.Refining.{Refining}
 use Rattle.rst_pairinv.proofs.Journals.{splitting_keeps}
-use Rattle.rst_gate.specs.Machine.{SameAcross, IsState}
+use Rattle.rst_gate.specs.Machine.{SameAcross}
 use Rattle.rst_gate.specs.MachineLaws.{IsInductive}
 use Rattle.rst_gate.specs.Circuits.{Circuit}
 use Rattle.rst_gate.specs.GateMachines.{machine_of}
@@ -20,10 +20,8 @@ use Rattle.rst_clause.specs.Results.{largest}
 use Rattle.rst_pair.specs.declared.hop.Hop.{Hop}
 use Rattle.rst_pair.specs.declared.query.Query.TheVariants.{Split}
 use Rattle.rst_pair.specs.Sides.{Sides, AreSides, left_machine, right_machine, IsPair}
-use Rattle.rst_pair.specs.Aims.{LiesInSome}
-use Rattle.rst_pair.specs.Hops.{cubes_of}
 use Rattle.rst_pair.specs.Fronts.{Front', IsFront, IsRelated, relation}
-use Rattle.rst_pair.specs.Queries.{Reading, reading, Splits, IsQueryCase, open_count, sharing_state, query_bits}
+use Rattle.rst_pair.specs.Queries.{Splits, IsQueryCase, open_count, sharing_state}
 use Rattle.rst_pose.specs.Posed.{posed}
 use Rattle.rst_query_laws.specs.Conditions.{AreShared, IsAbout}
 use Rattle.rst_query_laws.proofs.Solutions.{solutions_are}

@@ -3,7 +3,6 @@ use Rattle.std.proofs.Common.{◌≡◌, ◌∙◌, ◌↔◌, ℕ, ◌+◌, Boo
 use Rattle.std.specs.Prelude.{IsTrue, slice_index_or}
 use Rattle.std.specs.List.{All}
 use Rattle.std.proofs.Math.Seq.{take-append_seam, drop-append_seam}
-use Rattle.rst_value.specs.declared.tern.Tern.{Tern}
 use Rattle.rst_gate.specs.Circuits.{Circuit}
 use Rattle.rst_pair.specs.Sides.{Sides, IsPair}
 use Rattle.rst_pair.specs.Hops.{cubes_of}

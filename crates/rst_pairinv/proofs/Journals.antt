@@ -1,5 +1,5 @@
 -- The hops and the paths of appended journals, and the work of splitting behind candidates.
-use Rattle.std.proofs.Common.{◌≡◌, ◌∙◌, ℕ, zero, suc, ◌<◌, ◌≤◌, ◌+◌, ◌⊎◌, inl, inr, Bool, List, [], ◌∷◌, ◌++◌, length, get_or, take, drop, refl, ap, sym, subst, arith, length-append}
+use Rattle.std.proofs.Common.{◌≡◌, ◌∙◌, ℕ, suc, ◌<◌, ◌≤◌, ◌+◌, inl, inr, Bool, List, [], ◌∷◌, ◌++◌, length, get_or, take, drop, refl, ap, sym, subst, arith, length-append}
 use Rattle.std.proofs.Math.Seq.{take-append-add}
 use Rattle.std.proofs.lemmas.List.{take-append-le, get_or_append_left, get_or-append-add}
 use Rattle.rst_value.specs.declared.tern.Tern.{Tern}
@@ -13,10 +13,9 @@ use Rattle.rst_pair.specs.declared.journal.Entry.TheVariants.{Candidate, Conflic
 use Rattle.rst_pair.specs.Sides.{Sides}
 use Rattle.rst_pair.specs.Aims.{LiesInNone}
 use Rattle.rst_pair.specs.Hops.{cubes_of, blocked_aim}
-use Rattle.rst_pair.specs.Fronts.{Front'}
 use Rattle.rst_pose.specs.Works.{Search, blocked_of, freed_of, paths_of, phase, IsGoodHop, IsConflict, IsTrueEntry, AreWork}
 use Rattle.rst_pairinv.specs.Refining.{AreCandidates, KeepsWork}
-use Rattle.rst_pairinv.specs.Turns.{plain_search, IsSplitEntry, AreSplitting}
+use Rattle.rst_pairinv.specs.Turns.{plain_search, AreSplitting}
 use Rattle.rst_pairinv.proofs.Lists.{at_both, below_or_behind}
 
 pub blocked-append : (xs ys : List Entry) → blocked_of (xs ++ ys) ≡ blocked_of xs ++ blocked_of ys

@@ -1,5 +1,5 @@
 -- Where the input of a splitting pair leads it, and what its hop is when it is made wide.
-use Rattle.std.proofs.Common.{◌≡◌, ◌∙◌, ℕ, ◌<◌, ◌≤◌, ◌+◌, ◌⊎◌, inl, inr, Bool, true, false, not, List, [], ◌∷◌, ◌++◌, length, map, refl, ap, sym, subst, arith, length-append}
+use Rattle.std.proofs.Common.{◌≡◌, ◌∙◌, ℕ, ◌<◌, ◌+◌, inl, inr, Bool, true, false, not, List, [], ◌∷◌, ◌++◌, length, map, refl, ap, sym, subst, arith, length-append}
 use Rattle.std.specs.Prelude.{Option, None, Some, IfSome, IfNone}
 use Rattle.std.specs.Option.{ForSome}
 use Rattle.std.specs.List.{AllZip}
@@ -9,9 +9,9 @@ use Rattle.rst_value.specs.declared.tern.Tern.TheVariants.{Zero, One, Unknown}
 use Rattle.rst_value.specs.Terns.{known, StandsFor}
 use Rattle.rst_value.specs.TernLaws.{Refines}
 use Rattle.rst_pair.specs.declared.hop.Hop.{Hop}
-use Rattle.rst_pair.specs.Sides.{Sides, AreSides, left_machine, right_machine, IsPair, IsCube, Holds}
+use Rattle.rst_pair.specs.Sides.{Sides, AreSides, left_machine, right_machine, IsPair}
 use Rattle.rst_pair.specs.Aims.{AimIsWide, Leads, passes}
-use Rattle.rst_pair.specs.Hops.{AreHops, IsHop, IsRight, Passes, IsWidestHop, cubes_of, cube_at, blocked_aim}
+use Rattle.rst_pair.specs.Hops.{AreHops, IsHop, IsRight, Passes, IsWidestHop, cube_at, blocked_aim}
 use Rattle.rst_pair.proofs.Lists.{zip-length}
 use Rattle.rst_pair.proofs.Passing.{one-pair, passing-right}
 use Rattle.rst_pairinv.specs.Blocking.{IsBlockedHop}

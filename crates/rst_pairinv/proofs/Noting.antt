@@ -1,5 +1,5 @@
 -- What is noted keeps hops and work together.
-use Rattle.std.proofs.Common.{◌≡◌, ◌∙◌, ℕ, zero, suc, ◌<◌, ◌≤◌, ◌+◌, ◌⊎◌, inl, inr, ℤ, Bool, List, [], ◌∷◌, ◌++◌, length, get_or, map, take, drop, refl, ap, sym, subst, arith, append_assoc, length-append}
+use Rattle.std.proofs.Common.{◌≡◌, ◌∙◌, ℕ, zero, suc, ◌<◌, ◌+◌, inl, inr, ℤ, Bool, List, [], ◌∷◌, ◌++◌, length, get_or, map, take, drop, refl, ap, sym, subst, arith, append_assoc, length-append}
 use Rattle.std.proofs.Math.Seq.{take-append_seam, drop-append_seam, get_or-append_seam}
 use Rattle.std.proofs.lemmas.List.{append-nil, get_or_append_left}
 use Rattle.std.specs.List.{Contains}
@@ -7,12 +7,11 @@ use Rattle.std.proofs.lemmas.List.Elements.{Contains-push, Contains-append_left,
 use Rattle.rst_value.specs.declared.tern.Tern.{Tern}
 use Rattle.rst_gate.specs.ClosedSets.{AgreeOn}
 use Rattle.rst_clause.specs.Paths.{AreDisjoint, IsPath, ArePaths}
-use Rattle.rst_clause.proofs.Members.{Contains-one}
 use Rattle.rst_pair.specs.declared.hop.Hop.{Hop}
 use Rattle.rst_pair.specs.declared.query.Query.TheVariants.{Split}
 use Rattle.rst_pair.specs.declared.query.Kind.TheVariants as kind
 use Rattle.rst_pair.specs.declared.journal.Entry.{Entry}
-use Rattle.rst_pair.specs.declared.journal.Entry.TheVariants.{Conflict, Blocked}
+use Rattle.rst_pair.specs.declared.journal.Entry.TheVariants.{Blocked}
 use Rattle.rst_pair.specs.Sides.{Sides, IsPair, Holds}
 use Rattle.rst_pair.specs.Aims.{LiesInNone}
 use Rattle.rst_pair.specs.Hops.{cubes_of, blocked_aim}

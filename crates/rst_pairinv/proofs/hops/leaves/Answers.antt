@@ -1,6 +1,5 @@
 use Rattle.std.proofs.Common.{length, inl}
 use Rattle.rst_pose.proofs.Askings.{cubes_wide}
-use Rattle.rst_pairinv.proofs.Leading.{leaves_by}
 use Rattle.rst_pairinv.proofs.hops.leaves.Goals as goal
 
 pub first_with-requires-clause-wide : goal.first_with-requires-clause-wide

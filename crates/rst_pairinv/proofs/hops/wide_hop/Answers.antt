@@ -1,8 +1,5 @@
 use Rattle.std.proofs.Common.{◌∙◌, map, ap}
-use Rattle.std.specs.List.{AllZip}
 use Rattle.rst_value.specs.Terns.{known}
-use Rattle.rst_value.specs.TernLaws.{Refines}
-use Rattle.rst_pair.specs.Hops.{blocked_aim, Passes}
 use Rattle.rst_pairinv.proofs.Leading.{IsOfPair, pair_fits, pair_passes, pair_right, wide_is_good, refined_holds}
 use Rattle.rst_pairinv.proofs.hops.wide_hop.Goals as goal
 

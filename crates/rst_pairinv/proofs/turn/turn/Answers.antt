@@ -1,4 +1,4 @@
-use Rattle.std.proofs.Common.{◌≡◌, ◌∙◌, ◌++◌, List, map, ap, sym, subst, arith}
+use Rattle.std.proofs.Common.{◌∙◌, ◌++◌, List, map, ap, sym, subst, arith}
 use Rattle.rst_value.specs.declared.tern.Tern.{Tern}
 use Rattle.rst_pairinv.specs.Turns.{IsRefining, conflict_of}
 use Rattle.rst_pairinv.proofs.Blocked.{is_within}
